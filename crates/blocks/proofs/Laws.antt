@@ -1,0 +1,109 @@
+-- The laws of sets that callers use.
+use Prim.Native.Nat.{ℕ, zero, suc, _+_, _-_, _<_, _≤_}
+use mathlib.Core.Path.{_≡_, refl, sym, ap, _∙_}
+use mathlib.Core.Bool.{Bool, true, false, true≢false, _||_, _&&_, not, and-false}
+use mathlib.Core.Logic.{_⊎_, inl, inr, ⊎-elim}
+use native.Mathlib.Decide.{decLt}
+use native.Mathlib.Omega.{arith}
+use lib.Dec.{eqb, ltb, leb}
+use borrow.Author.Tests.{eqb-true, ne-eqb, ltb-true, ltb-false, le-ltb, le-leb, not-false, not-true}
+use Rattle.blocks.specs.declared.Blocks.{Blocks}
+use Rattle.blocks.specs.Blocks.{has, setOf, some, emptyOf, allOf, withOf, withoutOf, unionOf, minusOf, meetsOf, isEmptyOf, beyondOf}
+use Rattle.blocks.proofs.View.{has-setOf, has-past}
+
+-- ---- some number below n
+
+pub some-not : (p : ℕ → Bool) (n m : ℕ) → some p n ≡ false → m < n → p m ≡ false
+unfolding some
+some-not p zero m e h = absurd (omega arith)
+some-not p (suc n) m e h = go (some p n) refl (p n) refl (decLt m n) (some-not p n m)
+  where
+    go : (t : Bool) → some p n ≡ t → (u : Bool) → p n ≡ u → Dec (m < n) → (some p n ≡ false → m < n → p m ≡ false) → p m ≡ false
+    go false f u g (yes l) below = below f l
+    go false f false g (no l) below =
+        let q : m ≡ n = omega arith in
+        ap p q ∙ g
+    go true f u g d below = absurd (true≢false (rw f at e))
+    go false f true g (no l) below = absurd (true≢false (rw (f, g) at e))
+
+pub some-none : (p : ℕ → Bool) (n : ℕ) → ((m : ℕ) → m < n → p m ≡ false) → some p n ≡ false
+unfolding some
+some-none p zero h = refl
+some-none p (suc n) h = rw (some-none p n (λ m l. h m (omega (arith, l))), h n (omega arith))
+
+-- whatever holds of no number below n is no member; whatever has one, has some
+pub some-here : (p : ℕ → Bool) (n m : ℕ) → m < n → p m ≡ true → some p n ≡ true
+some-here p n m l e = go (some p n) refl
+  where
+    go : (t : Bool) → some p n ≡ t → some p n ≡ true
+    go true f = f
+    go false f = absurd (true≢false (sym e ∙ some-not p n m f l))
+
+pub some-same : (p q : ℕ → Bool) (n : ℕ) → ((m : ℕ) → m < n → p m ≡ q m) → some p n ≡ some q n
+unfolding some
+some-same p q zero h = refl
+some-same p q (suc n) h = rw (some-same p q n (λ m l. h m (omega (arith, l))), h n (omega arith))
+
+-- ---- who is in a set, for every number
+
+-- a test that is false from 320 up is what its set has
+pub has-of : (p : ℕ → Bool) (n : ℕ) → (320 ≤ n → p n ≡ false) → has (setOf p) n ≡ p n
+has-of p n h = go (decLt n 320)
+  where
+    go : Dec (n < 320) → has (setOf p) n ≡ p n
+    go (yes l) = has-setOf p n l
+    go (no l) = has-past (setOf p) n (omega arith) ∙ sym (h (omega arith))
+
+pub has-empty : (m : ℕ) → has emptyOf m ≡ false
+has-empty m = has-of (λ n. false) m (λ l. refl)
+
+pub has-all : (m : ℕ) → has allOf m ≡ ltb m 270
+has-all m = has-of (λ n. ltb n 270) m (λ l. le-ltb m 270 (omega arith))
+
+pub has-with : (s : Blocks) (n m : ℕ) → n < 320 → has (withOf s n) m ≡ (eqb m n || has s m)
+has-with s n m h =
+    has-of (λ k. eqb k n || has s k) m (λ l. rw (ne-eqb m n (λ e. omega (arith, e)), has-past s m l))
+
+pub has-without : (s : Blocks) (n m : ℕ) → has (withoutOf s n) m ≡ (not (eqb m n) && has s m)
+has-without s n m = has-of (λ k. not (eqb k n) && has s k) m (λ l. rw (has-past s m l) (and-false (not (eqb m n))))
+
+pub has-union : (s t : Blocks) (m : ℕ) → has (unionOf s t) m ≡ (has s m || has t m)
+has-union s t m = has-of (λ k. has s k || has t k) m (λ l. rw (has-past s m l, has-past t m l))
+
+pub has-minus : (s t : Blocks) (m : ℕ) → has (minusOf s t) m ≡ (has s m && not (has t m))
+has-minus s t m = has-of (λ k. has s k && not (has t k)) m (λ l. rw (has-past s m l))
+
+-- ---- two sets that share nothing
+
+-- a member of the one is no member of the other
+pub meets-not : (s t : Blocks) (n : ℕ) → meetsOf s t ≡ false → has s n ≡ true → has t n ≡ false
+meets-not s t n e m = go (decLt n 320)
+  where
+    go : Dec (n < 320) → has t n ≡ false
+    go (yes l) = ap (λ (b : Bool). b && has t n) (sym m) ∙ some-not (λ k. has s k && has t k) 320 n e l
+    go (no l) = has-past t n (omega arith)
+
+pub meets-none : (s t : Blocks) → ((n : ℕ) → n < 320 → has s n ≡ true → has t n ≡ false) → meetsOf s t ≡ false
+meets-none s t h = some-none (λ k. has s k && has t k) 320 (λ n l. go n l (has s n) refl)
+  where
+    go : (n : ℕ) → n < 320 → (b : Bool) → has s n ≡ b → (has s n && has t n) ≡ false
+    go n l true e = rw (e, h n l e)
+    go n l false e = rw e
+
+-- ---- no number at all, and none that is no block's
+
+pub empty-not : (s : Blocks) (n : ℕ) → isEmptyOf s ≡ true → has s n ≡ false
+empty-not s n e = go (decLt n 320)
+  where
+    go : Dec (n < 320) → has s n ≡ false
+    go (yes l) = some-not (has s) 320 n (not-true (some (has s) 320) e) l
+    go (no l) = has-past s n (omega arith)
+
+pub below-blocks : (s : Blocks) (n : ℕ) → beyondOf s ≡ false → has s n ≡ true → n < 270
+below-blocks s n e m = go (decLt n 270) (decLt n 320)
+  where
+    go : Dec (n < 270) → Dec (n < 320) → n < 270
+    go (yes l) d = l
+    go (no l) (yes k) =
+        absurd (true≢false (sym m ∙ ap (λ (b : Bool). b && has s n) (sym (le-leb 270 n (omega arith))) ∙ some-not (λ j. leb 270 j && has s j) 320 n e k))
+    go (no l) (no k) = absurd (true≢false (sym m ∙ has-past s n (omega arith)))

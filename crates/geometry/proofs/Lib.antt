@@ -1,0 +1,4 @@
+pub mod Table
+pub mod Units
+pub mod Laid
+pub mod Figures

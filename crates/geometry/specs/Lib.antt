@@ -1,0 +1,5 @@
+pub mod Parts
+pub mod Asked
+pub mod Rules
+pub mod Paper
+pub mod Runs

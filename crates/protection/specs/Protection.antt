@@ -1,0 +1,53 @@
+-- Protection of blocks (document 01, "Command cycles", "Refusals by number" and "The cut").
+use Prim.Native.Nat.{ℕ}
+use mathlib.Core.Bool.{Bool, true, false, _&&_, _||_, not}
+use lib.Dec.{ltb}
+use Rattle.blocks.specs.declared.Blocks.{Blocks}
+use Rattle.blocks.specs.Blocks.{has, setOf, emptyOf, withOf, withoutOf, isEmptyOf, beyondOf}
+use Rattle.geometry.specs.Parts.{blockCount}
+use Rattle.protection.specs.declared.Protection.{Protection}
+
+abbrev pub bits : Blocks → Blocks → Bool → Protection
+bits dyb ppb lock = record { dyb = dyb; ppb = ppb; lock = lock }
+
+-- "A fresh device has .. no protection"
+abbrev pub freshBits : Protection
+freshBits = bits emptyOf emptyOf false
+
+-- "Here 1 means protected. A block is protected if its DYB or PPB is 1."
+unfoldable pub protected : Protection → ℕ → Bool
+protected p b = has (p .dyb) b || has (p .ppb) b
+
+-- "48H: the next write's low four data bits, 1 or 0, set or clear the DYB of its block"
+abbrev pub dybSet : Protection → ℕ → Protection
+dybSet p b = bits (withOf (p .dyb) b) (p .ppb) (p .lock)
+
+abbrev pub dybCleared : Protection → ℕ → Protection
+dybCleared p b = bits (withoutOf (p .dyb) b) (p .ppb) (p .lock)
+
+-- "60H: then 68H and 48H in the same block set its PPB, or 60H and 40H at any address clear all PPBs"
+abbrev pub ppbSet : Protection → ℕ → Protection
+ppbSet p b = bits (p .dyb) (withOf (p .ppb) b) (p .lock)
+
+abbrev pub ppbsCleared : Protection → Protection
+ppbsCleared p = bits (p .dyb) emptyOf (p .lock)
+
+-- "78H: the PPB lock bit is set"
+abbrev pub locked : Protection → Protection
+locked p = bits (p .dyb) (p .ppb) true
+
+-- The cut: "all DYBs and the PPB lock bit are 0, PPBs .. stand"
+abbrev pub afterCut : Protection → Protection
+afterCut p = bits emptyOf (p .ppb) false
+
+-- "Chip erase ..; its list is every unprotected block"
+unfoldable pub unprotected : Protection → Blocks
+unprotected p = setOf (λ b. ltb b blockCount && not (protected p b))
+
+-- "or for a chip erase every block is" protected
+abbrev pub allProtected : Protection → Bool
+allProtected p = isEmptyOf (unprotected p)
+
+-- a bit for a number that is no block's: "block numbers are in range" rules it out
+abbrev pub strayBits : Protection → Bool
+strayBits p = beyondOf (p .dyb) || beyondOf (p .ppb)

@@ -1,0 +1,126 @@
+// Which blocks are protected: a DYB and a PPB for each block, and the bit that locks the PPBs (document 01, "Command
+// cycles"). 1 means protected.
+ghost use mathlib.Core.Path.{_≡_};
+ghost use Rattle.protection.specs.Protection.{freshBits, dybSet, dybCleared, ppbSet, ppbsCleared, locked, afterCut, protected, allProtected, unprotected, strayBits};
+use blocks::Blocks;
+
+pub struct Protection {
+    pub dyb: Blocks,
+    pub ppb: Blocks,
+    pub lock: bool,
+}
+
+impl Protection {
+    pub fn fresh() -> Self
+        ensures { λ r. ⌜ r ≡ freshBits ⌝ }
+    {
+        Protection {
+            dyb: Blocks::empty(),
+            ppb: Blocks::empty(),
+            lock: false,
+        }
+    }
+
+    pub fn with_dyb(self, block: usize) -> Self
+        ensures { λ r. ⌜ r ≡ dybSet self block ⌝ }
+    {
+        let dyb = self.dyb.with(block);
+        let ppb = self.ppb;
+        Protection {
+            dyb: dyb,
+            ppb: ppb,
+            lock: self.lock,
+        }
+    }
+
+    pub fn without_dyb(self, block: usize) -> Self
+        ensures { λ r. ⌜ r ≡ dybCleared self block ⌝ }
+    {
+        let dyb = self.dyb.without(block);
+        let ppb = self.ppb;
+        Protection {
+            dyb: dyb,
+            ppb: ppb,
+            lock: self.lock,
+        }
+    }
+
+    pub fn with_ppb(self, block: usize) -> Self
+        ensures { λ r. ⌜ r ≡ ppbSet self block ⌝ }
+    {
+        let dyb = self.dyb;
+        let ppb = self.ppb.with(block);
+        Protection {
+            dyb: dyb,
+            ppb: ppb,
+            lock: self.lock,
+        }
+    }
+
+    pub fn without_ppbs(self) -> Self
+        ensures { λ r. ⌜ r ≡ ppbsCleared self ⌝ }
+    {
+        let dyb = self.dyb;
+        Protection {
+            dyb: dyb,
+            ppb: Blocks::empty(),
+            lock: self.lock,
+        }
+    }
+
+    pub fn with_lock(self) -> Self
+        ensures { λ r. ⌜ r ≡ locked self ⌝ }
+    {
+        let dyb = self.dyb;
+        let ppb = self.ppb;
+        Protection {
+            dyb: dyb,
+            ppb: ppb,
+            lock: true,
+        }
+    }
+
+    pub fn after_cut(self) -> Self
+        ensures { λ r. ⌜ r ≡ afterCut self ⌝ }
+    {
+        let ppb = self.ppb;
+        Protection {
+            dyb: Blocks::empty(),
+            ppb: ppb,
+            lock: false,
+        }
+    }
+
+    // The one check of a block: everyone who asks goes through it.
+    pub fn is_protected(self, block: usize) -> bool
+        ensures { λ r. ⌜ r ≡ protected self block ⌝ }
+    {
+        if self.dyb.has(block) {
+            return true;
+        }
+        self.ppb.has(block)
+    }
+
+    // The blocks that may be programmed and erased.
+    pub fn unprotected(self) -> Blocks
+        ensures { λ r. ⌜ r ≡ unprotected self ⌝ }
+    {
+        Blocks::all().minus(self.dyb.union(self.ppb))
+    }
+
+    pub fn all_protected(self) -> bool
+        ensures { λ r. ⌜ r ≡ allProtected self ⌝ }
+    {
+        self.unprotected().is_empty()
+    }
+
+    // Is there a bit for a number that is no block's?
+    pub fn has_stray(self) -> bool
+        ensures { λ r. ⌜ r ≡ strayBits self ⌝ }
+    {
+        if self.dyb.beyond() {
+            return true;
+        }
+        self.ppb.beyond()
+    }
+}
