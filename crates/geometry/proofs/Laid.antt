@@ -2,14 +2,14 @@
 use Prim.Native.Nat.{ℕ, zero, suc, _+_, _*_, _/_, _<_, _≤_}
 use mathlib.Core.Path.{_≡_, refl, sym, ap, _∙_}
 use mathlib.Core.Bool.{cond}
-use native.Mathlib.Nat.{div-lt-iff-lt-mul, le-div-iff-mul-le, mul-comm, mul-add, mul-zero, mul-pos}
+use native.Mathlib.Nat.{div-lt-iff-lt-mul, le-div-iff-mul-le, mul-comm, mul-add, mul-zero, mul-pos, mul-le-mul-left}
 use native.Mathlib.Omega.{arith}
-use lib.Dec.{lit<, ltb}
+use lib.Dec.{lit<, lit≤, ltb}
 use Rattle.geometry.specs.declared.Part.{Part}
 use Rattle.geometry.specs.declared.Part.the-variants.{Small, Full}
-use Rattle.geometry.specs.Parts.{unitOf, sizeIn, firstIn, blockIn, bankOf, bankOfBlock}
+use Rattle.geometry.specs.Parts.{unitOf, sizeIn, firstIn, blockIn, bankOf, bankOfBlock, firstOf, sizeOf, wordCount}
 use Rattle.geometry.specs.Rules.{Laid}
-use Rattle.geometry.proofs.Units.{within, no-other, goes-on, some-units, same-test, bank-in}
+use Rattle.geometry.proofs.Units.{within, no-other, goes-on, some-units, same-test, bank-in, end-le}
 
 module _ (u : ℕ) (positive : 0 < u) where
   unit-below : (a m : ℕ) → a < u * m → a / u < m
@@ -64,3 +64,13 @@ laid p =
       some-words = some-words-at u more;
       one-bank = bank-at u more;
     }
+
+-- every block lies within the part; what is asked of a number that is no block's, too
+pub block-fits : (p : Part) (b : ℕ) → firstOf p b + sizeOf p b ≤ wordCount p
+block-fits p b = rw (← mul-add (unitOf p) (firstIn b) (sizeIn b)) (mul-le-mul-left (unitOf p) (end-le b))
+
+-- a part has at most 8,388,608 words
+pub words-le : (p : Part) → wordCount p ≤ 8388608
+unfolding unitOf
+words-le Small = lit≤ tt
+words-le Full = lit≤ tt

@@ -82,6 +82,12 @@ first-le b =
     by-run (firstIn b ≤ 2048) b (λ l. omega (arith, boot b l .first-is)) (λ l h. omega (arith, main b l h .first-is))
     (λ l h. omega (arith, top b l h .first-is)) (λ l. omega (arith, past b l .first-is))
 
+pub end-le : (b : ℕ) → firstIn b + sizeIn b ≤ 2048
+end-le b =
+    by-run (firstIn b + sizeIn b ≤ 2048) b (λ l. omega (arith, boot b l .first-is, boot b l .size-is))
+    (λ l h. omega (arith, main b l h .first-is, main b l h .size-is)) (λ l h. omega (arith, top b l h .first-is, top b l h .size-is))
+    (λ l. omega (arith, past b l .first-is, past b l .size-is))
+
 pub record Within (k b : ℕ) : Type 0 where
   pub below : b < 270
   pub from-first : firstIn b ≤ k

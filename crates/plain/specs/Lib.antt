@@ -1,0 +1,13 @@
+pub mod Choice
+pub mod Refusals
+pub mod Events
+pub mod Figures
+pub mod Record
+pub mod Sound
+pub mod Cycles
+pub mod Commands
+pub mod Time
+pub mod Status
+pub mod Cut
+pub mod Machine
+pub mod Bench

@@ -1,0 +1,19 @@
+-- Document 01, "Refusals by number": the number of each answer.
+use Prim.Native.Nat.{ℕ}
+use Rattle.plain.specs.declared.Refusal.{Refusal}
+use Rattle.plain.specs.declared.Refusal.the-variants.{Done, State, Cells, Address, Clock, Debris, Busy, Sequence, Bank, Protected, Suspended, Locked, Inner}
+
+unfoldable pub number : Refusal → ℕ
+number Done = 0
+number State = 1
+number Cells = 2
+number Address = 3
+number Clock = 4
+number Debris = 5
+number Busy = 6
+number Sequence = 7
+number Bank = 8
+number Protected = 9
+number Suspended = 10
+number Locked = 11
+number Inner = 12

@@ -1,0 +1,120 @@
+// The record of a device and its answers: the types that the plain machine of specs/ is written over.
+use blocks::Blocks;
+use meter::Meter;
+use protection::Protection;
+
+// How an event is answered (document 01, "Refusals by number"). Refusals::number has the paper's numbers.
+pub enum Refusal {
+    Done,
+    State,
+    Cells,
+    Address,
+    Clock,
+    Debris,
+    Busy,
+    Sequence,
+    Bank,
+    Protected,
+    Suspended,
+    Locked,
+    Inner,
+}
+
+// A program: its address and data, the microseconds left, and its toggle.
+pub struct Program {
+    pub at: usize,
+    pub word: u16,
+    pub left: u64,
+    pub dq6: bool,
+}
+
+// An erase: the listed blocks, the block in hand, the microseconds left of it, and the toggles.
+pub struct Erase {
+    pub list: Blocks,
+    pub hand: usize,
+    pub left: u64,
+    pub dq6: bool,
+    pub dq2: bool,
+}
+
+// What goes on inside a suspended erase.
+pub enum Inside {
+    Nothing,
+    Runs(Program),
+}
+
+pub struct SuspendedErase {
+    pub erase: Erase,
+    pub inside: Inside,
+}
+
+// What runs or rests. In the window `left` is the window's time: the block in hand has its full time yet.
+pub enum Operation {
+    Idle,
+    Programming(Program),
+    ProgramSuspended(Program),
+    Window(Erase),
+    Erasing(Erase),
+    EraseSuspended(SuspendedErase),
+    ChipErasing(Erase),
+}
+
+// The command register: how far a command is entered, or which reading is on.
+pub enum Command {
+    Ground,
+    Unlock,
+    Unlocked,
+    ProgramData,
+    EraseSetup,
+    EraseUnlock,
+    EraseUnlocked,
+    DybData,
+    PpbSetup,
+    PpbSetting(usize),
+    PpbClearing,
+    Identity(usize),
+    DybReading,
+}
+
+// The whole record.
+pub struct Device {
+    pub meter: Meter,
+    pub command: Command,
+    pub operation: Operation,
+    pub bits: Protection,
+}
+
+// The answer to an event: the refusal, the word that a read gives, and the record afterwards.
+pub struct Answer {
+    pub refusal: Refusal,
+    pub word: u16,
+    pub device: Device,
+}
+
+// What a write does.
+pub enum Effect {
+    // It is taken, and the register goes on.
+    Goes(Command),
+    // It is taken, an operation starts, stops or goes on, and the register is at ground.
+    Starts(Operation),
+    // It is taken, protection bits change, and the register is at ground.
+    Protects(Protection),
+    // It is refused, and the register is at ground; a suspension stands.
+    Falls(Refusal),
+    // It is refused, and nothing changes.
+    Stays(Refusal),
+    // It is no write of the erase window: SEQUENCE, and the list is dropped.
+    Drops,
+}
+
+// What a read sees: the word, and the operation with its toggles afterwards.
+pub struct Seen {
+    pub word: u16,
+    pub operation: Operation,
+}
+
+// A word or a block, or none.
+pub enum Place {
+    Nowhere,
+    At(usize),
+}
