@@ -3,6 +3,7 @@ pub mod Ticks
 pub mod Running
 pub mod Lists
 pub mod Ends
+pub mod Facts
 pub mod Leaps
 pub mod Quick
 pub mod Rows

@@ -7,17 +7,16 @@ use lib.Dec.{leb, eqb}
 use lib.ListN.{length}
 use Rattle.geometry.specs.declared.Part.{Part}
 use Rattle.geometry.specs.Parts.{wordCount}
-use Rattle.protection.specs.Protection.{strayBits}
 use Rattle.plain.specs.declared.Refusal.the-variants.{State, Cells, Clock, Inner}
 use Rattle.plain.specs.declared.Device.{Device}
 use Rattle.plain.specs.Choice.{if_then_else_}
 use Rattle.plain.specs.Events.{Event, read, write, wait, cut, Turn}
 use Rattle.plain.specs.Figures.{clockLimit}
-use Rattle.plain.specs.Sound.{meterSound, operationSound, commandSound, sound}
+use Rattle.plain.specs.Sound.{sound}
 use Rattle.plain.specs.Time.{Moment, moment, ticks, someEndProtected}
 use Rattle.plain.specs.Machine.{Outcome, Ran, refused, checked, waited, readEvent, writeEvent, waitEvent, cutEvent, step, run}
-use Rattle.plain.proofs.Tools.{both-left, both-right}
 use Rattle.plain.proofs.Ends.{sound-safe, none-ends}
+use Rattle.plain.proofs.Facts.{sound-operation}
 use Rattle.plain.proofs.Leaps.{leap, leap-ticks}
 
 -- a chip erase has at most 270 happenings, and a wait may end after them
@@ -30,17 +29,10 @@ quickWait p r cells n =
     (if not (leb (r .meter .clock + n) (clockLimit p)) then refused Clock r cells
     else waited r (leap p fuel n (moment (r .meter) (r .operation) cells)))
 
-pub sound-operation : (p : Part) (r : Device) → sound p r ≡ true → operationSound p (r .bits) (r .operation) ≡ true
-unfolding sound
-sound-operation p r s =
-    both-left (operationSound p (r .bits) (r .operation)) (commandSound (r .operation) (r .command))
-    (both-right (not (strayBits (r .bits))) (operationSound p (r .bits) (r .operation) && commandSound (r .operation) (r .command))
-    (both-right (meterSound p (r .meter)) (not (strayBits (r .bits)) && (operationSound p (r .bits) (r .operation) && commandSound (r .operation) (r .command))) s))
-
 -- INNER is never met on a sound record
 pub never-inner : (p : Part) (r : Device) (cells : List ℕ) (n : ℕ) → sound p r ≡ true → someEndProtected p (r .bits) n (moment (r .meter) (r .operation) cells) ≡ false
 never-inner p r cells n s =
-    none-ends p (r .bits) n (moment (r .meter) (r .operation) cells) (sound-safe p (r .bits) (r .operation) (sound-operation p r s))
+    none-ends p (r .bits) n (moment (r .meter) (r .operation) cells) (sound-safe p (r .bits) (r .operation) (sound-operation p r s (r .operation) refl))
 
 pub quick-wait : (p : Part) (r : Device) (cells : List ℕ) (n : ℕ) → waitEvent p r cells n ≡ quickWait p r cells n
 unfolding waitEvent quickWait

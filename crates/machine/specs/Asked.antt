@@ -1,0 +1,36 @@
+-- What people ask of a device besides its four events.
+use Prim.Native.Nat.{ℕ}
+use mathlib.Core.Bool.{Bool, _&&_}
+use Rattle.geometry.specs.declared.Part.{Part}
+use Rattle.meter.specs.declared.Meter.{Meter}
+use Rattle.protection.specs.declared.Protection.{Protection}
+use Rattle.protection.specs.Protection.{afterCut}
+use Rattle.plain.specs.declared.Place.the-variants.{Nowhere}
+use Rattle.plain.specs.declared.Operation.the-variants.{Idle}
+use Rattle.plain.specs.declared.Command.the-variants.{Ground}
+use Rattle.plain.specs.declared.Device.{Device}
+use Rattle.plain.specs.Choice.{if_then_else_}
+use Rattle.plain.specs.Record.{device}
+use Rattle.plain.specs.Sound.{sound}
+use Rattle.cutting.specs.declared.begun.Exposed.{Exposed}
+use Rattle.cutting.specs.Lent.{exposedBy}
+use Rattle.reading.specs.Mapped.{givesCells}
+
+-- ---- "when the pack runs flat during a firmware update, which words of the flash may have changed"
+
+abbrev pub noneExposed : Exposed
+noneExposed = record { block = Nowhere; word = Nowhere }
+
+-- the block whose erase has begun and the word whose program has begun; an unsound record refuses every cut
+unfoldable pub exposedNow : Part → Device → Exposed
+exposedNow p r =
+    if sound p r then exposedBy p (r .operation) else noneExposed
+
+-- ---- may an emulator map the cells of a bank directly?
+
+unfoldable pub readsCells : Part → Device → (bank : ℕ) → Bool
+readsCells p r bank = sound p r && givesCells p (r .command) (r .operation) bank
+
+-- the record after a cut, of the two parts that stand
+abbrev pub cutOf : Meter → Protection → Device
+cutOf m b = device m Ground Idle (afterCut b)

@@ -1,0 +1,108 @@
+// The command register: what a write does, and the record after it (document 01, "Command cycles" and "Refusals by number").
+ghost use mathlib.Core.Path.{_≡_};
+ghost use Rattle.plain.specs.Record.{device, answer};
+ghost use Rattle.plain.specs.Commands.{written, effected};
+use geometry::Part;
+use meter::Meter;
+use plain::Answer;
+use plain::Command;
+use plain::Device;
+use plain::Effect;
+use plain::Inside;
+use plain::Operation;
+use plain::Refusal;
+use protection::Protection;
+
+mod cycles;
+mod figures;
+mod operations;
+mod running;
+mod states;
+
+use running::at_rest;
+use running::in_window;
+use running::or_busy;
+use states::entered;
+
+// What a write does: an operation that runs decides by itself, else the register does.
+pub fn written(
+    part: Part,
+    bits: Protection,
+    operation: Operation,
+    command: Command,
+    address: usize,
+    word: u16,
+) -> Effect
+    ensures { λ r. ⌜ r ≡ written part bits operation command address word ⌝ }
+{
+    match operation {
+        Operation::Idle => entered(part, bits, operation, command, address, word),
+        Operation::Programming(program) => or_busy(word, Operation::ProgramSuspended(program)),
+        Operation::ProgramSuspended(_) => entered(part, bits, operation, command, address, word),
+        Operation::Window(erase) => in_window(part, bits, erase, address, word),
+        Operation::Erasing(erase) => or_busy(word, at_rest(erase)),
+        Operation::EraseSuspended(rest) => {
+            let inside = rest.inside;
+            match inside {
+                Inside::Nothing => entered(part, bits, operation, command, address, word),
+                Inside::Runs(_) => Effect::Stays(Refusal::Busy),
+            }
+        }
+        Operation::ChipErasing(_) => Effect::Stays(Refusal::Busy),
+    }
+}
+
+// The answer to a write and the record after it: the table's column "afterwards".
+pub fn effected(device: Device, effect: Effect) -> Answer
+    ensures { λ r. ⌜ r ≡ effected device effect ⌝ }
+{
+    let meter = device.meter;
+    let operation = device.operation;
+    let bits = device.bits;
+    match effect {
+        Effect::Goes(command) => answered(Refusal::Done, meter, command, operation, bits),
+        Effect::Starts(started) => answered(Refusal::Done, meter, Command::Ground, started, bits),
+        Effect::Protects(changed) => answered(
+            Refusal::Done,
+            meter,
+            Command::Ground,
+            operation,
+            changed,
+        ),
+        Effect::Falls(refusal) => answered(refusal, meter, Command::Ground, operation, bits),
+        Effect::Stays(refusal) => Answer {
+            refusal: refusal,
+            word: 0,
+            device: device,
+        },
+        Effect::Drops => answered(
+            Refusal::Sequence,
+            meter,
+            Command::Ground,
+            Operation::Idle,
+            bits,
+        ),
+    }
+}
+
+// An answer to a write: "every event that is no read, gives the word 0".
+fn answered(
+    refusal: Refusal,
+    meter: Meter,
+    command: Command,
+    operation: Operation,
+    bits: Protection,
+) -> Answer
+    ensures { λ r. ⌜ r ≡ answer refusal 0 (device meter command operation bits) ⌝ }
+{
+    Answer {
+        refusal: refusal,
+        word: 0,
+        device: Device {
+            meter: meter,
+            command: command,
+            operation: operation,
+            bits: bits,
+        },
+    }
+}

@@ -1,0 +1,61 @@
+// Which records are sound (document 01, "A record is sound when .."), and the record of a fresh device.
+ghost use mathlib.Core.Path.{_≡_};
+ghost use Rattle.plain.specs.Record.{fresh};
+ghost use Rattle.plain.specs.Sound.{meterSound, sound};
+
+mod commands;
+mod figures;
+mod lists;
+mod operations;
+
+use geometry::Part;
+use meter::Meter;
+use plain::Command;
+use plain::Device;
+use plain::Operation;
+use protection::Protection;
+
+// "A fresh device has clock 0, charge 0, no operation, no protection, any cells."
+pub fn fresh() -> Device
+    ensures { λ r. ⌜ r ≡ fresh ⌝ }
+{
+    Device {
+        meter: Meter {
+            clock: 0,
+            charge: 0,
+        },
+        command: Command::Ground,
+        operation: Operation::Idle,
+        bits: Protection::fresh(),
+    }
+}
+
+// Judged at every event, so without a loop over the blocks.
+pub fn is_sound(part: Part, device: Device) -> bool
+    ensures { λ r. ⌜ r ≡ sound part device ⌝ }
+{
+    let meter = device.meter;
+    if !meter_sound(part, meter) {
+        return false;
+    }
+    let bits = device.bits;
+    if bits.has_stray() {
+        return false;
+    }
+    let operation = device.operation;
+    if !operations::operation_sound(part, bits, operation) {
+        return false;
+    }
+    let command = device.command;
+    commands::command_sound(operation, command)
+}
+
+// "the clock is at most the limit; charge is at most 17,000 times the clock": in this order, so that the product fits.
+fn meter_sound(part: Part, meter: Meter) -> bool
+    ensures { λ r. ⌜ r ≡ meterSound part meter ⌝ }
+{
+    if figures::CLOCK_LIMIT < meter.clock {
+        return false;
+    }
+    meter.charge <= figures::RUNNING_CURRENT * meter.clock
+}
