@@ -13,7 +13,7 @@ use Rattle.geometry.proofs.Laid.{laid, block-fits}
 use Rattle.plain.specs.declared.Operation.{Operation}
 use Rattle.plain.specs.declared.Place.{Place}
 use Rattle.plain.specs.declared.Place.the-variants.{Nowhere, At}
-use Rattle.plain.specs.Cut.{begunBlock, begunWord, programWord, blockDebris, debrisNeeded, blockCut, wordCut, cutCells}
+use Rattle.plain.specs.Cut.{begunBlock, begunWord, blockDebris, debrisNeeded, blockCut, wordCut, cutCells}
 use Rattle.cutting.specs.Lent.{exposedBy}
 
 -- ---- the word

@@ -5,19 +5,13 @@ use geometry::Part;
 use plain::Inside;
 use plain::Operation;
 use plain::Place;
+use plain::figures;
 
 // The block and the word that a cut would change.
 pub struct Exposed {
     pub block: Place,
     pub word: Place,
 }
-
-// Full times, in microseconds.
-const PROGRAM_TIME: u64 = 6;
-
-const ERASE_TIME: u64 = 700000;
-
-const CHIP_TIME: u64 = 500000;
 
 // The block whose erase has begun.
 pub fn begun_block(part: Part, operation: Operation) -> Place
@@ -28,12 +22,12 @@ pub fn begun_block(part: Part, operation: Operation) -> Place
         Operation::Programming(_) => Place::Nowhere,
         Operation::ProgramSuspended(_) => Place::Nowhere,
         Operation::Window(_) => Place::Nowhere,
-        Operation::Erasing(e) => if_begun(e.left, ERASE_TIME, e.hand),
+        Operation::Erasing(e) => if_begun(e.left, figures::ERASE_TIME, e.hand),
         Operation::EraseSuspended(s) => {
             let erase = s.erase;
-            if_begun(erase.left, ERASE_TIME, erase.hand)
+            if_begun(erase.left, figures::ERASE_TIME, erase.hand)
         }
-        Operation::ChipErasing(e) => if_begun(e.left, CHIP_TIME, e.hand),
+        Operation::ChipErasing(e) => if_begun(e.left, figures::CHIP_TIME, e.hand),
     }
 }
 
@@ -43,8 +37,8 @@ pub fn begun_word(part: Part, operation: Operation) -> Place
 {
     match operation {
         Operation::Idle => Place::Nowhere,
-        Operation::Programming(q) => if_begun(q.left, PROGRAM_TIME, q.at),
-        Operation::ProgramSuspended(q) => if_begun(q.left, PROGRAM_TIME, q.at),
+        Operation::Programming(q) => if_begun(q.left, figures::PROGRAM_TIME, q.at),
+        Operation::ProgramSuspended(q) => if_begun(q.left, figures::PROGRAM_TIME, q.at),
         Operation::Window(_) => Place::Nowhere,
         Operation::Erasing(_) => Place::Nowhere,
         Operation::EraseSuspended(s) => {
@@ -60,7 +54,7 @@ fn begun_inside(part: Part, inside: Inside) -> Place
 {
     match inside {
         Inside::Nothing => Place::Nowhere,
-        Inside::Runs(q) => if_begun(q.left, PROGRAM_TIME, q.at),
+        Inside::Runs(q) => if_begun(q.left, figures::PROGRAM_TIME, q.at),
     }
 }
 

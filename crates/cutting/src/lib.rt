@@ -41,13 +41,8 @@ pub fn cut_cells(part: Part, operation: Operation, cells: &mut [u16], debris: &[
     let block = begun::begun_block(part, operation);
     let word = begun::begun_word(part, operation);
     cut_block(part, block, cells, debris);
-    cut_word(
-        word,
-        begun::program_word(operation),
-        cells,
-        debris,
-        block_debris(part, block),
-    );
+    let next = block_debris(part, block);
+    cut_word(word, begun::program_word(operation), cells, debris, next);
 }
 
 // "The block takes the debris as its words."

@@ -13,6 +13,7 @@ use geometry::Part;
 use plain::Answer;
 use plain::Device;
 use plain::Refusal;
+use plain::figures;
 
 // "A fresh device has clock 0, charge 0, no operation, no protection, any cells."
 pub fn fresh() -> Device
@@ -89,7 +90,7 @@ pub fn wait(part: Part, device: Device, cells: &mut [u16], microseconds: u64) ->
     }
     let meter = device.meter;
     // The clock is at most its limit, so the difference is there; the sum might not be.
-    if 100000000000000 - meter.clock < microseconds {
+    if figures::CLOCK_LIMIT - meter.clock < microseconds {
         return checks::refused(Refusal::Clock, device);
     }
     let command = device.command;

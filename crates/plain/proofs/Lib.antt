@@ -7,3 +7,5 @@ pub mod Facts
 pub mod Leaps
 pub mod Quick
 pub mod Rows
+pub mod HistoryLeaps
+pub mod Told

@@ -11,3 +11,6 @@ pub mod Status
 pub mod Cut
 pub mod Machine
 pub mod Bench
+pub mod History
+pub mod Promises
+pub mod Worked

@@ -1,4 +1,6 @@
 // The record of a device and its answers: the types that the plain machine of specs/ is written over.
+pub mod figures;
+
 use blocks::Blocks;
 use meter::Meter;
 use protection::Protection;

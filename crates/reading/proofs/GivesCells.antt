@@ -3,14 +3,16 @@ use Prim.Native.Nat.{ℕ, _<_}
 use mathlib.Core.Path.{_≡_, refl, sym, ap, _∙_}
 use mathlib.Core.Bool.{Bool, true, false, false≢true, _&&_, not}
 use mathlib.Core.List.{List}
+use native.Mathlib.Decide.{decLt}
 use native.Mathlib.Omega.{arith}
 use lib.Dec.{ltb, eqb}
 use lib.ListN.{getD}
 use borrow.Author.Tests.{eqb-true, eqb-false, ne-eqb, not-true, not-false}
-use Rattle.blocks.specs.Blocks.{has}
+use Rattle.blocks.specs.Blocks.{has, some}
 use Rattle.blocks.proofs.Laws.{some-not}
+use Rattle.blocks.proofs.View.{has-past}
 use Rattle.geometry.specs.declared.Part.{Part}
-use Rattle.geometry.specs.Parts.{blockCount, wordCount, blockOf, bankOf, bankOfBlock}
+use Rattle.geometry.specs.Parts.{blockCount, blockOf, bankOf, bankOfBlock}
 use Rattle.geometry.proofs.Laid.{laid}
 use Rattle.protection.specs.declared.Protection.{Protection}
 use Rattle.protection.specs.Protection.{protected}
@@ -21,21 +23,20 @@ use Rattle.plain.specs.declared.Operation.{Operation}
 use Rattle.plain.specs.declared.Operation.the-variants.{Idle, Programming, ProgramSuspended, Window, Erasing, EraseSuspended, ChipErasing}
 use Rattle.plain.specs.declared.Command.{Command}
 use Rattle.plain.specs.declared.Command.the-variants.{Ground, Unlock, Unlocked, ProgramData, EraseSetup, EraseUnlock, EraseUnlocked, DybData, PpbSetup, PpbSetting, PpbClearing, Identity, DybReading}
-use Rattle.plain.specs.Sound.{mayErase, onlyThose, listSound, operationSound, timeSound, insideSound}
-use Rattle.plain.specs.Figures.{eraseTime}
+use Rattle.plain.specs.Sound.{mayErase, onlyThose, listSound, insideSound, operationSound}
 use Rattle.plain.specs.Status.{insidePolls, polls, readingOn, rests, look, seen}
 use Rattle.reading.specs.Mapped.{readingIn, insideAway, away, givesCells}
 
-and-left : (a b : Bool) → (a && b) ≡ true → a ≡ true
+pub and-left : (a b : Bool) → (a && b) ≡ true → a ≡ true
 and-left true b e = refl
 and-left false b e = e
 
-and-right : (a b : Bool) → (a && b) ≡ true → b ≡ true
+pub and-right : (a b : Bool) → (a && b) ≡ true → b ≡ true
 and-right true b e = e
 and-right false b e = absurd (false≢true e)
 
 -- a reading is on at an address if it is on in its bank
-reading-same : (p : Part) (c : Command) (a : ℕ) → readingOn p c a ≡ readingIn c (bankOf p a)
+pub reading-same : (p : Part) (c : Command) (a : ℕ) → readingOn p c a ≡ readingIn c (bankOf p a)
 unfolding readingOn readingIn
 reading-same p Ground a = refl
 reading-same p Unlock a = refl
@@ -51,6 +52,20 @@ reading-same p PpbClearing a = refl
 reading-same p (Identity b) a = refl
 reading-same p DybReading a = refl
 
+-- a listed block may be erased
+pub listed-may : (bits : Protection) (w : Erase) (b : ℕ) → listSound bits w ≡ true → has (w .list) b ≡ true → mayErase bits (w .hand) b ≡ true
+unfolding listSound
+listed-may bits w b e m = go (decLt b 320)
+  where
+    only : some (λ k. has (w .list) k && not (mayErase bits (w .hand) k)) 320 ≡ false
+    only = not-true _ (and-right (has (w .list) (w .hand)) (onlyThose (mayErase bits (w .hand)) (w .list)) e)
+
+    go : Dec (b < 320) → mayErase bits (w .hand) b ≡ true
+    go (yes l) =
+        not-false (mayErase bits (w .hand) b)
+        (ap (λ (t : Bool). t && not (mayErase bits (w .hand) b)) (sym m) ∙ some-not (λ k. has (w .list) k && not (mayErase bits (w .hand) k)) 320 b only l)
+    go (no l) = absurd (false≢true (sym (has-past (w .list) b (omega arith)) ∙ m))
+
 module _ (p : Part) (a : ℕ) where
   none-inside : (i : Inside) → insideAway p i (bankOf p a) ≡ true → insidePolls p i a ≡ false
   unfolding insideAway insidePolls
@@ -64,33 +79,28 @@ module _ (p : Part) (a : ℕ) where
   none-polls (ProgramSuspended q) e = refl
   none-polls (Window w) e = not-true (eqb (bankOf p a) (bankOfBlock (w .hand))) e
   none-polls (Erasing w) e = not-true (eqb (bankOf p a) (bankOfBlock (w .hand))) e
-  none-polls (EraseSuspended s) e =
-      none-inside (s .inside) (and-right (not (eqb (bankOf p a) (bankOfBlock (s .erase .hand)))) (insideAway p (s .inside) (bankOf p a)) e)
+  none-polls (EraseSuspended r) e =
+      none-inside (r .inside) (and-right (not (eqb (bankOf p a) (bankOfBlock (r .erase .hand)))) (insideAway p (r .inside) (bankOf p a)) e)
   none-polls (ChipErasing w) e = absurd (false≢true e)
 
   -- "an erase list .. lies in one bank": a listed block is in the bank of the block in hand
-  one-bank : (bits : Protection) (w : Erase) → a < wordCount p → listSound bits w ≡ true → has (w .list) (blockOf p a) ≡ true
-      → bankOf p a ≡ bankOfBlock (w .hand)
-  unfolding listSound
-  one-bank bits w l e m =
+  one-bank : (bits : Protection) (w : Erase) → listSound bits w ≡ true → has (w .list) (blockOf p a) ≡ true → bankOf p a ≡ bankOfBlock (w .hand)
+  one-bank bits w e m =
       let b = blockOf p a in
-      let only = not-true _ (and-right (has (w .list) (w .hand)) (onlyThose (mayErase bits (w .hand)) (w .list)) e) in
-      let may = some-not (λ k. has (w .list) k && not (mayErase bits (w .hand) k)) 320 b only (omega (arith, laid p .in-block a l)) in
-      let fine = not-false (mayErase bits (w .hand) b) (ap (λ (t : Bool). t && not (mayErase bits (w .hand) b)) (sym m) ∙ may) in
-      let near = and-left (eqb (bankOfBlock b) (bankOfBlock (w .hand))) (not (protected bits b)) (and-right (ltb b blockCount) _ fine) in
+      let near = and-left (eqb (bankOfBlock b) (bankOfBlock (w .hand))) (not (protected bits b)) (and-right (ltb b blockCount) _ (listed-may bits w b e m)) in
       laid p .one-bank a ∙ eqb-true (bankOfBlock b) (bankOfBlock (w .hand)) near
 
-  none-rests : (bits : Protection) (o : Operation) → operationSound p bits o ≡ true → a < wordCount p → away p o (bankOf p a) ≡ true → rests p o a ≡ false
+  none-rests : (bits : Protection) (o : Operation) → operationSound p bits o ≡ true → away p o (bankOf p a) ≡ true → rests p o a ≡ false
   unfolding operationSound away rests
-  none-rests bits Idle s l e = refl
-  none-rests bits (Programming q) s l e = refl
-  none-rests bits (ProgramSuspended q) s l e =
+  none-rests bits Idle s e = refl
+  none-rests bits (Programming q) s e = refl
+  none-rests bits (ProgramSuspended q) s e =
       ne-eqb (blockOf p a) (blockOf p (q .at))
       (λ same. eqb-false (bankOf p a) (bankOf p (q .at)) (not-true (eqb (bankOf p a) (bankOf p (q .at))) e)
       (laid p .one-bank a ∙ ap bankOfBlock same ∙ sym (laid p .one-bank (q .at))))
-  none-rests bits (Window w) s l e = refl
-  none-rests bits (Erasing w) s l e = refl
-  none-rests bits (EraseSuspended r) s l e = go (has (r .erase .list) (blockOf p a)) refl
+  none-rests bits (Window w) s e = refl
+  none-rests bits (Erasing w) s e = refl
+  none-rests bits (EraseSuspended r) s e = go (has (r .erase .list) (blockOf p a)) refl
     where
       hand : ℕ
       hand = bankOfBlock (r .erase .hand)
@@ -100,14 +110,13 @@ module _ (p : Part) (a : ℕ) where
       go true m =
           let listed = and-left (listSound bits (r .erase)) _ (and-left _ (insideSound p bits (r .erase) (r .inside)) s) in
           let apart = not-true (eqb (bankOf p a) hand) (and-left _ (insideAway p (r .inside) (bankOf p a)) e) in
-          absurd (eqb-false (bankOf p a) hand apart (one-bank bits (r .erase) l listed m))
-  none-rests bits (ChipErasing w) s l e = refl
+          absurd (eqb-false (bankOf p a) hand apart (one-bank bits (r .erase) listed m))
+  none-rests bits (ChipErasing w) s e = refl
 
 pub gives-cells : (p : Part) (bits : Protection) (c : Command) (o : Operation) (cells : List ℕ) (a : ℕ)
-    → operationSound p bits o ≡ true → a < wordCount p → givesCells p c o (bankOf p a) ≡ true
-    → look p bits c o cells a ≡ seen (getD cells a 0) o
+    → operationSound p bits o ≡ true → givesCells p c o (bankOf p a) ≡ true → look p bits c o cells a ≡ seen (getD cells a 0) o
 unfolding look givesCells
-gives-cells p bits c o cells a s l e =
+gives-cells p bits c o cells a s e =
     let clear = and-right (not (readingIn c (bankOf p a))) (away p o (bankOf p a)) e in
     let silent = not-true (readingIn c (bankOf p a)) (and-left (not (readingIn c (bankOf p a))) (away p o (bankOf p a)) e) in
-    rw (none-polls p a o clear, reading-same p c a, silent, none-rests p a bits o s l clear)
+    rw (none-polls p a o clear, reading-same p c a, silent, none-rests p a bits o s clear)

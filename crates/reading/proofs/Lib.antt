@@ -1,1 +1,2 @@
 pub mod GivesCells
+pub mod Disturbed

@@ -33,16 +33,13 @@ pub fn look(
         return status::poll(part, operation, address);
     }
     if readings::reading_on(part, command, address) {
-        return Seen {
-            word: readings::reading_word(part, bits, command, address),
-            operation: operation,
-        };
+        return status::seen(
+            readings::reading_word(part, bits, command, address),
+            operation,
+        );
     }
     if resting::rests(part, operation, address) {
         return resting::rest(operation);
     }
-    Seen {
-        word: cells[address],
-        operation: operation,
-    }
+    status::seen(cells[address], operation)
 }

@@ -3,6 +3,7 @@
 ghost use mathlib.Core.Path.{_≡_};
 ghost use Rattle.plain.specs.Status.{rests, rested, restFlipped, restWord, seen};
 use crate::status::dq7;
+use crate::status::seen;
 use crate::status::status_word;
 use geometry::Part;
 use plain::Erase;
@@ -34,38 +35,20 @@ pub fn rest(operation: Operation) -> Seen
     ensures { λ r. ⌜ r ≡ seen (restWord (rested operation)) (rested operation) ⌝ }
 {
     match operation {
-        Operation::Idle => Seen {
-            word: 0,
-            operation: operation,
-        },
-        Operation::Programming(_) => Seen {
-            word: 0,
-            operation: operation,
-        },
-        Operation::ProgramSuspended(q) => Seen {
-            word: status_word(dq7(q), true, false, true),
-            operation: operation,
-        },
-        Operation::Window(_) => Seen {
-            word: 0,
-            operation: operation,
-        },
-        Operation::Erasing(_) => Seen {
-            word: 0,
-            operation: operation,
-        },
+        Operation::Idle => seen(0, operation),
+        Operation::Programming(_) => seen(0, operation),
+        Operation::ProgramSuspended(q) => seen(status_word(dq7(q), true, false, true), operation),
+        Operation::Window(_) => seen(0, operation),
+        Operation::Erasing(_) => seen(0, operation),
         Operation::EraseSuspended(s) => {
             let after = rest_flipped(s);
             let erase = after.erase;
-            Seen {
-                word: status_word(true, true, false, erase.dq2),
-                operation: Operation::EraseSuspended(after),
-            }
+            seen(
+                status_word(true, true, false, erase.dq2),
+                Operation::EraseSuspended(after),
+            )
         }
-        Operation::ChipErasing(_) => Seen {
-            word: 0,
-            operation: operation,
-        },
+        Operation::ChipErasing(_) => seen(0, operation),
     }
 }
 

@@ -1,7 +1,7 @@
 // The status words of what runs: "A read in the bank of a running operation (window included; any bank in a chip erase) gives a
 // status word" (document 01).
 ghost use mathlib.Core.Path.{_≡_};
-ghost use mathlib.Core.Bool.{not};
+ghost use mathlib.Core.Bool.{false, not};
 ghost use Prim.Native.Nat.{_≤_};
 ghost use Rattle.plain.specs.Choice.{if_then_else_};
 ghost use Rattle.plain.specs.Status.{statusWord, dq7, insidePolls, polls, programPolled, erasePolled, insidePolled, polled, programStatus, insideStatus, status, seen};
@@ -47,42 +47,24 @@ pub fn poll(part: Part, operation: Operation, address: usize) -> Seen
     ensures { λ r. ⌜ r ≡ seen (status (polled part operation address)) (polled part operation address) ⌝ }
 {
     match operation {
-        Operation::Idle => Seen {
-            word: 0,
-            operation: operation,
-        },
+        Operation::Idle => seen(0, operation),
         Operation::Programming(q) => {
             let after = program_polled(q);
-            Seen {
-                word: program_status(after),
-                operation: Operation::Programming(after),
-            }
+            seen(program_status(after), Operation::Programming(after))
         }
-        Operation::ProgramSuspended(_) => Seen {
-            word: 0,
-            operation: operation,
-        },
+        Operation::ProgramSuspended(_) => seen(0, operation),
         Operation::Window(e) => {
             let after = erase_polled(part, e, address);
-            Seen {
-                word: status_word(false, after.dq6, false, after.dq2),
-                operation: Operation::Window(after),
-            }
+            seen(erase_status(after, false), Operation::Window(after))
         }
         Operation::Erasing(e) => {
             let after = erase_polled(part, e, address);
-            Seen {
-                word: status_word(false, after.dq6, true, after.dq2),
-                operation: Operation::Erasing(after),
-            }
+            seen(erase_status(after, true), Operation::Erasing(after))
         }
         Operation::EraseSuspended(s) => poll_inside(s),
         Operation::ChipErasing(e) => {
             let after = erase_polled(part, e, address);
-            Seen {
-                word: status_word(false, after.dq6, true, after.dq2),
-                operation: Operation::ChipErasing(after),
-            }
+            seen(erase_status(after, true), Operation::ChipErasing(after))
         }
     }
 }
@@ -93,20 +75,25 @@ fn poll_inside(s: SuspendedErase) -> Seen
     let erase = s.erase;
     let inside = s.inside;
     match inside {
-        Inside::Nothing => Seen {
-            word: 0,
-            operation: Operation::EraseSuspended(s),
-        },
+        Inside::Nothing => seen(0, Operation::EraseSuspended(s)),
         Inside::Runs(q) => {
             let after = program_polled(q);
-            Seen {
-                word: program_status(after),
-                operation: Operation::EraseSuspended(SuspendedErase {
-                    erase: erase,
-                    inside: Inside::Runs(after),
-                }),
-            }
+            let rest = SuspendedErase {
+                erase: erase,
+                inside: Inside::Runs(after),
+            };
+            seen(program_status(after), Operation::EraseSuspended(rest))
         }
+    }
+}
+
+// The answer of a read.
+pub fn seen(word: u16, operation: Operation) -> Seen
+    ensures { λ r. ⌜ r ≡ seen word operation ⌝ }
+{
+    Seen {
+        word: word,
+        operation: operation,
     }
 }
 
@@ -150,6 +137,13 @@ fn program_status(q: Program) -> u16
     ensures { λ r. ⌜ r ≡ programStatus q ⌝ }
 {
     status_word(dq7(q), q.dq6, false, true)
+}
+
+// "Erase: DQ7 0, DQ3 1 except 0 in the window"
+fn erase_status(e: Erase, three: bool) -> u16
+    ensures { λ r. ⌜ r ≡ statusWord false (e .dq6) three (e .dq2) ⌝ }
+{
+    status_word(false, e.dq6, three, e.dq2)
 }
 
 pub fn dq7(q: Program) -> bool

@@ -1,4 +1,5 @@
-// The command register: what a write does, and the record after it (document 01, "Command cycles" and "Refusals by number").
+// The command register: what a write does, and the record after it (document 01, "Command cycles" and "Refusals by
+// number").
 ghost use mathlib.Core.Path.{_≡_};
 ghost use Rattle.plain.specs.Record.{device, answer};
 ghost use Rattle.plain.specs.Commands.{written, effected};
@@ -14,7 +15,6 @@ use plain::Refusal;
 use protection::Protection;
 
 mod cycles;
-mod figures;
 mod operations;
 mod running;
 mod states;

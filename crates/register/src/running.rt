@@ -5,7 +5,6 @@ ghost use Rattle.plain.specs.Record.{suspended};
 ghost use Rattle.plain.specs.Commands.{addBlock, inWindow, orBusy};
 ghost use Rattle.plain.specs.declared.Inside.the-variants.{Nothing};
 ghost use Rattle.plain.specs.declared.Operation.the-variants.{EraseSuspended};
-use crate::figures;
 use geometry::Part;
 use geometry::bank_of_block;
 use plain::Effect;
@@ -14,6 +13,7 @@ use plain::Inside;
 use plain::Operation;
 use plain::Refusal;
 use plain::SuspendedErase;
+use plain::figures;
 use protection::Protection;
 
 // "B0H at any address suspends a running block erase or a running program at once"; any other write is BUSY.

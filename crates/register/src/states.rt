@@ -6,7 +6,6 @@ use crate::cycles::is_cycle;
 use crate::cycles::is_first_unlock;
 use crate::cycles::is_second_unlock;
 use crate::cycles::reset_or_sequence;
-use crate::figures;
 use crate::operations::is_suspended;
 use crate::operations::listed_in;
 use crate::operations::program_rests;
@@ -20,6 +19,7 @@ use plain::Erase;
 use plain::Operation;
 use plain::Program;
 use plain::Refusal;
+use plain::figures;
 use protection::Protection;
 
 pub fn entered(
@@ -75,7 +75,8 @@ fn after_unlock(address: usize, word: u16) -> Effect
     reset_or_sequence(word)
 }
 
-// Both unlock writes, then the third at 555H. "SUSPENDED comes at the third write for 80H, 48H, 78H, 60H, for A0H in a suspended program".
+// Both unlock writes, then the third at 555H. "SUSPENDED comes at the third write for 80H, 48H, 78H, 60H, for A0H in a
+// suspended program".
 fn after_unlocked(
     part: Part,
     bits: Protection,

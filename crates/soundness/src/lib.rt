@@ -4,7 +4,6 @@ ghost use Rattle.plain.specs.Record.{fresh};
 ghost use Rattle.plain.specs.Sound.{meterSound, sound};
 
 mod commands;
-mod figures;
 mod lists;
 mod operations;
 
@@ -13,6 +12,7 @@ use meter::Meter;
 use plain::Command;
 use plain::Device;
 use plain::Operation;
+use plain::figures;
 use protection::Protection;
 
 // "A fresh device has clock 0, charge 0, no operation, no protection, any cells."

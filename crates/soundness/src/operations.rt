@@ -2,7 +2,6 @@
 ghost use mathlib.Core.Path.{_≡_};
 ghost use Rattle.plain.specs.declared.Operation.the-variants.{Window, Erasing, EraseSuspended, ChipErasing};
 ghost use Rattle.plain.specs.Sound.{timeSound, programSound, insideSound, operationSound};
-use crate::figures;
 use crate::lists;
 use geometry::Part;
 use plain::Erase;
@@ -10,6 +9,7 @@ use plain::Inside;
 use plain::Operation;
 use plain::Program;
 use plain::SuspendedErase;
+use plain::figures;
 use protection::Protection;
 
 pub fn operation_sound(part: Part, bits: Protection, operation: Operation) -> bool

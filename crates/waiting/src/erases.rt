@@ -16,6 +16,7 @@ use geometry::Part;
 use meter::Meter;
 use plain::Erase;
 use plain::Operation;
+use plain::figures;
 
 // The window runs out, and the first block is in hand with its full time.
 pub fn pass_window(part: Part, meter: Meter, e: Erase, cells: &mut [u16], n: u64) -> Moved
@@ -119,9 +120,9 @@ fn block_time(part: Part, chip: bool) -> u64
     ensures { λ r. ⌜ r ≡ blockTime part chip ⌝ }
 {
     if chip {
-        return 500000;
+        return figures::CHIP_TIME;
     }
-    700000
+    figures::ERASE_TIME
 }
 
 fn with_left(e: Erase, left: u64) -> Erase

@@ -1,5 +1,5 @@
-use Rattle.plain.specs.Cut.{blockDebris}
 use borrow.Author.Needs.{needs}
+use Rattle.plain.specs.Cut.{blockDebris}
 use Rattle.cutting.proofs.block_debris.Statement.{statement}
 use Rattle.cutting.proofs.block_debris.Tie as tie
 

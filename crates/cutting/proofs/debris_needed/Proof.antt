@@ -1,7 +1,7 @@
 use Prim.Native.Nat.{_≤_}
-use Rattle.plain.specs.Cut.{debrisNeeded}
 use native.Mathlib.Omega.{arith}
 use borrow.Author.Needs.{needs}
+use Rattle.plain.specs.Cut.{debrisNeeded}
 use Rattle.cutting.proofs.Laws.{block-debris-le, word-debris-le}
 use Rattle.cutting.proofs.debris_needed.Statement.{statement}
 use Rattle.cutting.proofs.debris_needed.Tie as tie

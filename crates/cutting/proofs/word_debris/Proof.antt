@@ -1,5 +1,5 @@
-use Rattle.plain.specs.Cut.{wordDebris}
 use borrow.Author.Needs.{needs}
+use Rattle.plain.specs.Cut.{wordDebris}
 use Rattle.cutting.proofs.word_debris.Statement.{statement}
 use Rattle.cutting.proofs.word_debris.Tie as tie
 

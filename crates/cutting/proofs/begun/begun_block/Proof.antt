@@ -1,5 +1,5 @@
-use Rattle.plain.specs.Cut.{begunBlock}
 use borrow.Author.Needs.{needs}
+use Rattle.plain.specs.Cut.{begunBlock}
 use Rattle.cutting.proofs.begun.begun_block.Statement.{statement}
 use Rattle.cutting.proofs.begun.begun_block.Tie as tie
 

@@ -1,5 +1,5 @@
-use Rattle.plain.specs.Cut.{begunInside}
 use borrow.Author.Needs.{needs}
+use Rattle.plain.specs.Cut.{begunInside}
 use Rattle.cutting.proofs.begun.begun_inside.Statement.{statement}
 use Rattle.cutting.proofs.begun.begun_inside.Tie as tie
 

@@ -1,5 +1,5 @@
-use Rattle.plain.specs.Cut.{begunWord}
 use borrow.Author.Needs.{needs}
+use Rattle.plain.specs.Cut.{begunWord}
 use Rattle.cutting.proofs.begun.begun_word.Statement.{statement}
 use Rattle.cutting.proofs.begun.begun_word.Tie as tie
 

@@ -1,5 +1,5 @@
-use Rattle.plain.specs.Cut.{insideWord}
 use borrow.Author.Needs.{needs}
+use Rattle.plain.specs.Cut.{insideWord}
 use Rattle.cutting.proofs.begun.inside_word.Statement.{statement}
 use Rattle.cutting.proofs.begun.inside_word.Tie as tie
 

@@ -1,5 +1,5 @@
-use Rattle.plain.specs.Cut.{programWord}
 use borrow.Author.Needs.{needs}
+use Rattle.plain.specs.Cut.{programWord}
 use Rattle.cutting.proofs.begun.program_word.Statement.{statement}
 use Rattle.cutting.proofs.begun.program_word.Tie as tie
 

@@ -1,6 +1,6 @@
 use borrow.Author.Tests.{eq-eqb, ne-eqb}
-use Rattle.reading.specs.Mapped.{away}
 use borrow.Author.Needs.{needs}
+use Rattle.reading.specs.Mapped.{away}
 use Rattle.reading.proofs.mapped.away.Statement.{statement}
 use Rattle.reading.proofs.mapped.away.Tie as tie
 

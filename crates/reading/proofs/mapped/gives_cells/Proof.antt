@@ -1,5 +1,5 @@
-use Rattle.reading.specs.Mapped.{givesCells}
 use borrow.Author.Needs.{needs}
+use Rattle.reading.specs.Mapped.{givesCells}
 use Rattle.reading.proofs.mapped.gives_cells.Statement.{statement}
 use Rattle.reading.proofs.mapped.gives_cells.Tie as tie
 

@@ -1,5 +1,5 @@
-use Rattle.reading.specs.Mapped.{insideAway}
 use borrow.Author.Needs.{needs}
+use Rattle.reading.specs.Mapped.{insideAway}
 use Rattle.reading.proofs.mapped.inside_away.Statement.{statement}
 use Rattle.reading.proofs.mapped.inside_away.Tie as tie
 

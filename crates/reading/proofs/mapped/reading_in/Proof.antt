@@ -1,5 +1,5 @@
-use Rattle.reading.specs.Mapped.{readingIn}
 use borrow.Author.Needs.{needs}
+use Rattle.reading.specs.Mapped.{readingIn}
 use Rattle.reading.proofs.mapped.reading_in.Statement.{statement}
 use Rattle.reading.proofs.mapped.reading_in.Tie as tie
 

@@ -1,5 +1,5 @@
-use Rattle.plain.specs.Status.{readingOn}
 use borrow.Author.Needs.{needs}
+use Rattle.plain.specs.Status.{readingOn}
 use Rattle.reading.proofs.readings.reading_on.Statement.{statement}
 use Rattle.reading.proofs.readings.reading_on.Tie as tie
 

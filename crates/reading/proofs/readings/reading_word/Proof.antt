@@ -1,5 +1,5 @@
-use Rattle.plain.specs.Status.{readingWord}
 use borrow.Author.Needs.{needs}
+use Rattle.plain.specs.Status.{readingWord}
 use Rattle.reading.proofs.readings.reading_word.Statement.{statement}
 use Rattle.reading.proofs.readings.reading_word.Tie as tie
 

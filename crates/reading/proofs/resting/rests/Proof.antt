@@ -1,5 +1,5 @@
-use Rattle.plain.specs.Status.{rests}
 use borrow.Author.Needs.{needs}
+use Rattle.plain.specs.Status.{rests}
 use Rattle.reading.proofs.resting.rests.Statement.{statement}
 use Rattle.reading.proofs.resting.rests.Tie as tie
 

@@ -1,5 +1,5 @@
-use Rattle.plain.specs.Status.{insidePolls}
 use borrow.Author.Needs.{needs}
+use Rattle.plain.specs.Status.{insidePolls}
 use Rattle.reading.proofs.status.inside_polls.Statement.{statement}
 use Rattle.reading.proofs.status.inside_polls.Tie as tie
 

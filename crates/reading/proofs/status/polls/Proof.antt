@@ -1,5 +1,5 @@
-use Rattle.plain.specs.Status.{polls}
 use borrow.Author.Needs.{needs}
+use Rattle.plain.specs.Status.{polls}
 use Rattle.reading.proofs.status.polls.Statement.{statement}
 use Rattle.reading.proofs.status.polls.Tie as tie
 
