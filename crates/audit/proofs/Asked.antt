@@ -36,7 +36,7 @@ unfolding exposedNow
 exposed-told p r s = rw s
 
 module _ (p : Part) (r : Device) (cells debris : List ℕ) (x : ℕ) (no-word : exposedNow p r .word ≡ At x → ⊥) (no-block : (b : ℕ) → exposedNow p r .block ≡ At b → blockOf p x ≡ b → ⊥) where
-  Spared : Outcome → Type 0
+  abbrev Spared : Outcome → Type 0
   Spared o = getD (o .cells) x 0 ≡ getD cells x 0
 
   sparing : sound p r ≡ true → length cells ≡ wordCount p → debrisNeeded p (r .operation) ≤ length debris → getD (cutCells p (r .operation) debris cells) x 0 ≡ getD cells x 0
@@ -45,8 +45,8 @@ module _ (p : Part) (r : Device) (cells debris : List ℕ) (x : ℕ) (no-word : 
       (λ e. no-word (ap (λ (y : Exposed). y .word) (exposed-told p r s) ∙ e))
       (λ b e. no-block b (ap (λ (y : Exposed). y .block) (exposed-told p r s) ∙ e))
 
-  pub spared : Spared (cutEvent p r cells debris)
-  unfolding Spared cutEvent
+  pub spared : getD (cutEvent p r cells debris .cells) x 0 ≡ getD cells x 0
+  unfolding cutEvent
   spared =
       by-test Spared (not (sound p r)) (λ t. refl)
       (λ t. by-test Spared (not (eqb (length cells) (wordCount p))) (λ u. refl)
