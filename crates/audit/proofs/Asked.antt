@@ -22,7 +22,7 @@ use Rattle.plain.proofs.Tools.{by-test, both-left, both-right}
 use Rattle.plain.proofs.Facts.{sound-operation}
 use Rattle.cutting.specs.declared.begun.Exposed.{Exposed}
 use Rattle.cutting.specs.Lent.{exposedBy}
-use Rattle.cutting.proofs.Untouched.{untouched}
+use Rattle.plain.proofs.CutCells.{untouched}
 use Rattle.reading.specs.Mapped.{givesCells}
 use Rattle.reading.proofs.GivesCells.{gives-cells}
 use Rattle.machine.specs.Asked.{exposedNow, readsCells}

@@ -27,13 +27,11 @@ use Rattle.plain.specs.History.{Doing, programs, pauses, erases, wipes, rests, 
 use Rattle.plain.specs.Promises.{ProgramBegun, EraseBegun}
 use Rattle.plain.specs.Promises as said
 use Rattle.plain.proofs.Tools.{by-test, clash}
+use Rattle.plain.proofs.CutCells.{nowhere}
 use Rattle.plain.proofs.Facts.{ProgramFacts, EraseFacts, programming, program-suspended, erasing, erase-suspended, chip-erasing, inside-runs}
 use Rattle.history.proofs.Seen.{seenInside, seenOp}
 
 -- ---- a place that is there
-
-pub nowhere : {P : Type 0} {a : ℕ} → Nowhere ≡ At a → P
-nowhere e = let z : _≡_ {A = ℕ} 0 1 = cc in absurd (omega arith)
 
 pub record There (l full at a : ℕ) : Type 0 where
   pub time : l < full

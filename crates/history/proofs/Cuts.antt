@@ -7,10 +7,9 @@ use native.Mathlib.Omega.{arith}
 use lib.Dec.{ltb}
 use lib.ListN.{length, getD}
 use borrow.Author.Tests.{ltb-true, ltb-false, lt-ltb, le-ltb}
-use Rattle.cells.proofs.Laws.{length-littered, length-cutShort}
 use Rattle.geometry.specs.declared.Part.{Part}
 use Rattle.geometry.specs.Parts.{wordCount, sizeOf, firstOf}
-use Rattle.geometry.proofs.Laid.{block-fits}
+use Rattle.plain.proofs.CutCells.{length-block}
 use Rattle.plain.specs.declared.Erase.{Erase}
 use Rattle.plain.specs.declared.Inside.{Inside}
 use Rattle.plain.specs.declared.Inside.the-variants.{Nothing, Runs}
@@ -34,11 +33,6 @@ progress l full =
     (λ e. le-ltb 0 (full - l) (omega (arith, ltb-false l full e)) ∙ sym e)
 
 module _ (p : Part) (debris : List ℕ) where
-  pub block-long : (at : Place) (cells : List ℕ) → length cells ≡ wordCount p → blockDebris p at ≤ length debris → length (blockCut p at debris cells) ≡ length cells
-  unfolding blockDebris blockCut
-  block-long Nowhere cells long enough = refl
-  block-long (At b) cells long enough = length-littered cells (firstOf p b) (sizeOf p b) debris (rw long (block-fits p b)) enough
-
   debris-of : (l full b : ℕ) → blockDebris p (ifBegun l full b) ≡ (if ltb 0 (full - l) then sizeOf p b else 0)
   unfolding blockDebris
   debris-of l full b = rw (progress l full) (by-cases (begun l full) (λ e. rw e) (λ e. rw e))
@@ -67,7 +61,7 @@ module _ (p : Part) (debris : List ℕ) where
     inside-holds e (Runs q) (runs f) fs cells long enough h =
         rw (debris-of (e .left) (eraseTime p) (e .hand))
         (word-holds (eraseCuts (eraseTime p - e .left) (e .hand) debris fs) (blockCut p (ifBegun (e .left) (eraseTime p) (e .hand)) debris cells) (q .left) (q .at) (q .word) _
-        (block-long (ifBegun (e .left) (eraseTime p) (e .hand)) cells long enough ∙ long) (f .inside)
+        (length-block p debris cells long (ifBegun (e .left) (eraseTime p) (e .hand)) enough ∙ long) (f .inside)
         (block-holds fs cells (e .left) (eraseTime p) (e .hand) long enough h))
 
     pub cut-holds : (o : Operation) → Fit p o → (fs : List Fact) (cells : List ℕ) → length cells ≡ wordCount p → debrisNeeded p o ≤ length debris → Holds p start fs cells

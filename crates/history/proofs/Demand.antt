@@ -10,12 +10,9 @@ use lib.ListN.{length, getD}
 use borrow.Author.Tests.{not-false, eqb-true, eq-eqb, ne-eqb, ltb-false}
 use Rattle.blocks.specs.Blocks.{emptyOf}
 use Rattle.cells.specs.Bits.{Partly}
-use Rattle.cells.specs.Cells.{cutShort, littered}
 use Rattle.cells.proofs.Bits.{partly}
-use Rattle.cells.proofs.Laws.{cutShort-at, length-cutShort, littered-in, littered-out}
 use Rattle.geometry.specs.declared.Part.{Part}
 use Rattle.geometry.specs.Parts.{wordCount, blockOf, firstOf, sizeOf}
-use Rattle.geometry.proofs.Laid.{laid, block-fits}
 use Rattle.protection.specs.Protection.{protected}
 use Rattle.plain.specs.declared.Refusal.the-variants.{Done, State, Cells, Debris}
 use Rattle.plain.specs.declared.Operation.{Operation}
@@ -31,51 +28,12 @@ use Rattle.plain.specs.Machine.{Outcome, outcome, cutEvent, step, run}
 use Rattle.plain.specs.History.{Fact, Told, history, untold, told, holds}
 use Rattle.plain.specs.Promises.{ProgramBegun, EraseBegun, Left, Demand3, Holding, Metered, ChargeByHistory}
 use Rattle.plain.proofs.Tools.{by-test, by-cases, clash}
+use Rattle.plain.proofs.CutCells.{length-block, word-out, word-hit, block-out, block-hit, block-enough, length-cut, untouched}
 use Rattle.plain.proofs.Facts.{sound-operation}
 use Rattle.history.proofs.Seen.{seenOp, seen}
 use Rattle.history.proofs.Holds.{Holds}
-use Rattle.history.proofs.Cuts.{block-long}
 use Rattle.history.proofs.Runs.{run-told}
-use Rattle.history.proofs.Begun.{word-told, block-told, word-is, block-is, same-word, same-block, word-free, block-free, apart, nowhere}
-
--- ---- the cells after a cut, word by word
-
-module _ (p : Part) (debris cells : List ℕ) (long : length cells ≡ wordCount p) where
-  fits : (b : ℕ) → firstOf p b + sizeOf p b ≤ length cells
-  fits b = rw long (block-fits p b)
-
-  block-other : (at : Place) → blockDebris p at ≤ length debris → (x : ℕ) → ((b : ℕ) → at ≡ At b → blockOf p x ≡ b → ⊥) → getD (blockCut p at debris cells) x 0 ≡ getD cells x 0
-  unfolding blockDebris blockCut
-  block-other Nowhere enough x miss = refl
-  block-other (At b) enough x miss =
-      littered-out cells (firstOf p b) (sizeOf p b) debris (fits b) enough x (λ l m. miss b refl (laid p .no-other x b l m))
-
-  block-hit : (at : Place) → blockDebris p at ≤ length debris → (x : ℕ) → x < wordCount p → at ≡ At (blockOf p x)
-      → getD (blockCut p at debris cells) x 0 ≡ getD debris (x - firstOf p (blockOf p x)) 0
-  unfolding blockDebris blockCut
-  block-hit Nowhere enough x hx e = nowhere e
-  block-hit (At b) enough x hx e =
-      let same : b ≡ blockOf p x = cc in
-      let in-it : (firstOf p b ≤ x) × (x < firstOf p b + sizeOf p b) = rw same (laid p .from-first x hx, laid p .to-last x hx) in
-      littered-in cells (firstOf p b) (sizeOf p b) debris (fits b) enough x (in-it .0) (in-it .1)
-      ∙ ap (λ (k : ℕ). getD debris (x - firstOf p k) 0) same
-
-word-other : (cells : List ℕ) (at : Place) (w d x : ℕ) → ((a : ℕ) → at ≡ At a → (a < length cells) × (x ≡ a → ⊥)) → getD (wordCut at w d cells) x 0 ≡ getD cells x 0
-unfolding wordCut
-word-other cells Nowhere w d x miss = refl
-word-other cells (At a) w d x miss = cutShort-at cells a w d (miss a refl .0) x ∙ rw (ne-eqb x a (miss a refl .1))
-
-word-hit : (cells : List ℕ) (at : Place) (w d x : ℕ) → x < length cells → at ≡ At x → getD (wordCut at w d cells) x 0 ≡ bitAnd (getD cells x 0) (bitOr w d)
-unfolding wordCut
-word-hit cells Nowhere w d x hx e = nowhere e
-word-hit cells (At a) w d x hx e =
-    let same : a ≡ x = cc in
-    rw same (cutShort-at cells x w d hx x ∙ rw (eq-eqb x x refl))
-
-word-long : (cells : List ℕ) (at : Place) (w d : ℕ) → length (wordCut at w d cells) ≡ length cells
-unfolding wordCut
-word-long cells Nowhere w d = refl
-word-long cells (At a) w d = length-cutShort cells a w d
+use Rattle.history.proofs.Begun.{word-told, block-told, word-is, block-is, same-word, same-block, word-free, block-free, apart}
 
 -- ---- what the cut leaves, given the record
 
@@ -85,35 +43,28 @@ module _ (p : Part) (start : List ℕ) (fs : List Fact) (r : Device) (cells debr
   op-sound = sound-operation p r s (r .operation) refl
 
   for-block : blockDebris p (begunBlock p (r .operation)) ≤ length debris
-  unfolding debrisNeeded
-  for-block = omega (arith, enough)
+  for-block = block-enough p (r .operation) debris cells long enough
 
   abbrev after-block : List ℕ
   after-block = blockCut p (begunBlock p (r .operation)) debris cells
 
   block-size : length after-block ≡ wordCount p
-  block-size = block-long p debris (begunBlock p (r .operation)) cells long for-block ∙ long
-
-  in-cells : (a : ℕ) → begunWord p (r .operation) ≡ At a → a < length after-block
-  in-cells a e = omega (arith, block-size, word-free p (r .bits) (r .operation) op-sound a e .inside)
+  block-size = length-block p debris cells long (begunBlock p (r .operation)) for-block ∙ long
 
   abbrev cut-cells : List ℕ
   cut-cells = cutCells p (r .operation) debris cells
 
-  missed : (x : ℕ) → ((b : ℕ) → begunBlock p (r .operation) ≡ At b → blockOf p x ≡ b → ⊥) → ((a : ℕ) → begunWord p (r .operation) ≡ At a → x ≡ a → ⊥)
-      → getD cut-cells x 0 ≡ getD cells x 0
-  unfolding cutCells
-  missed x b a =
-      word-other after-block (begunWord p (r .operation)) _ _ x (λ k e. (in-cells k e, a k e)) ∙ block-other p debris cells long (begunBlock p (r .operation)) for-block x b
+  missed : (x : ℕ) → ((b : ℕ) → begunBlock p (r .operation) ≡ At b → blockOf p x ≡ b → ⊥) → (begunWord p (r .operation) ≡ At x → ⊥) → getD cut-cells x 0 ≡ getD cells x 0
+  missed x b a = untouched p (r .operation) debris cells long enough x a b
 
   word-left : (x w : ℕ) → x < wordCount p → ProgramBegun (seenOp p (r .operation)) x w → Partly (getD cells x 0) w (getD cut-cells x 0)
   unfolding cutCells
   word-left x w hx g =
       let is = word-is p (r .operation) x w g in
       rw (
-        word-hit after-block (begunWord p (r .operation)) (programWord (r .operation)) _ x (omega (arith, block-size)) (is .at),
+        word-hit (programWord (r .operation)) _ after-block (begunWord p (r .operation)) x (omega (arith, block-size)) (is .at),
         is .word,
-        block-other p debris cells long (begunBlock p (r .operation)) for-block x (λ b e d. apart p (r .bits) (r .operation) op-sound x b (is .at) e d),
+        block-out p debris cells long (begunBlock p (r .operation)) for-block x (λ b e d. apart p (r .bits) (r .operation) op-sound x b (is .at) e d),
       )
       (partly (getD cells x 0) w _)
 
@@ -121,25 +72,21 @@ module _ (p : Part) (start : List ℕ) (fs : List Fact) (r : Device) (cells debr
   unfolding cutCells
   block-left x hx g =
       let is = block-is p (r .operation) (blockOf p x) g in
-      word-other after-block (begunWord p (r .operation)) _ _ x (λ a e. (in-cells a e, λ d. apart p (r .bits) (r .operation) op-sound a (blockOf p x) e is (ap (blockOf p) (sym d))))
+      word-out _ _ after-block (begunWord p (r .operation)) x (λ e. apart p (r .bits) (r .operation) op-sound x (blockOf p x) e is refl)
       ∙ block-hit p debris cells long (begunBlock p (r .operation)) for-block x hx is
-
-  size-left : length cut-cells ≡ length cells
-  unfolding cutCells
-  size-left = word-long after-block (begunWord p (r .operation)) _ _ ∙ block-long p debris (begunBlock p (r .operation)) cells long for-block
 
   left : Left p start (seen p r fs) r cells debris (outcome (answer Done 0 (cutDevice r)) cut-cells)
   unfolding Holds
   left =
       record {
-        others = λ x hx nw nb. missed x (λ b e d. nb (rw d (block-told p (r .operation) b e))) (λ a e d. nw (programWord (r .operation)) (rw d (word-told p (r .operation) a e))) ∙ h x hx;
+        others = λ x hx nw nb. missed x (λ b e d. nb (rw d (block-told p (r .operation) b e))) (λ e. nw (programWord (r .operation)) (word-told p (r .operation) x e)) ∙ h x hx;
         word = λ x w hx g. rw (← h x hx) (word-left x w hx g);
         block = λ x hx g. block-left x hx g;
         one-word = λ x y v w f g. same-word p (seenOp p (r .operation)) f g;
         one-block = λ b c f g. same-block p (seenOp p (r .operation)) f g;
         kept = λ x hx e. missed x (λ b f d. clash e (ap (protected (r .bits)) d ∙ block-free p (r .bits) (r .operation) op-sound b f))
-            (λ a f d. clash e (ap (λ (y : ℕ). protected (r .bits) (blockOf p y)) d ∙ word-free p (r .bits) (r .operation) op-sound a f .free));
-        size = size-left;
+            (λ f. clash e (word-free p (r .bits) (r .operation) op-sound x f .free));
+        size = length-cut p (r .operation) debris cells long enough;
         meter = refl;
         ppb = refl;
         dyb = refl;

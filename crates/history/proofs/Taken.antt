@@ -7,13 +7,10 @@ use native.Mathlib.Omega.{arith}
 use lib.Dec.{ltb, leb, eqb}
 use lib.ListN.{length}
 use borrow.Author.Tests.{not-false, eqb-true, ltb-false}
-use Rattle.cells.proofs.Laws.{length-cutShort}
 use Rattle.geometry.specs.declared.Part.{Part}
 use Rattle.geometry.specs.Parts.{wordCount}
 use Rattle.plain.specs.declared.Refusal.the-variants.{Done, State, Cells, Debris}
 use Rattle.plain.specs.declared.Operation.{Operation}
-use Rattle.plain.specs.declared.Place.{Place}
-use Rattle.plain.specs.declared.Place.the-variants.{Nowhere, At}
 use Rattle.plain.specs.declared.Device.{Device}
 use Rattle.plain.specs.Choice.{if_then_else_}
 use Rattle.plain.specs.Events.{Event, read, write, wait, cut}
@@ -21,18 +18,13 @@ use Rattle.plain.specs.Figures.{clockLimit}
 use Rattle.plain.specs.Record.{fresh}
 use Rattle.plain.specs.Sound.{sound}
 use Rattle.plain.specs.Time.{moment, someEndProtected}
-use Rattle.plain.specs.Cut.{begunBlock, begunWord, blockDebris, wordDebris, debrisNeeded, blockCut, wordCut, cutCells}
+use Rattle.plain.specs.Cut.{debrisNeeded}
 use Rattle.plain.specs.Machine.{Outcome, refused, readEvent, writeEvent, waitEvent, cutEvent, step, run}
 use Rattle.plain.proofs.Tools.{by-test}
 use Rattle.plain.proofs.Facts.{sound-operation}
-use Rattle.history.proofs.Cuts.{block-long}
+use Rattle.plain.proofs.CutCells.{length-cut}
 use Rattle.history.proofs.Times.{sound-fit, waited-told}
 use Rattle.history.proofs.Kept.{always-sound, cut-accepted, cut-refused}
-
-word-long : (at : Place) (w d : ℕ) (cells : List ℕ) → length (wordCut at w d cells) ≡ length cells
-unfolding wordCut
-word-long Nowhere w d cells = refl
-word-long (At a) w d cells = length-cutShort cells a w d
 
 module _ (p : Part) (r : Device) (cells : List ℕ) where
   -- an event leaves as many cells as there were
@@ -47,12 +39,6 @@ module _ (p : Part) (r : Device) (cells : List ℕ) where
       (λ s. by-test Long (not (eqb (length cells) (wordCount p))) (λ l. refl)
       (λ l. f (not-false (sound p r) s) (eqb-true (length cells) (wordCount p) (not-false (eqb (length cells) (wordCount p)) l))))
 
-  cut-long : (debris : List ℕ) → length cells ≡ wordCount p → debrisNeeded p (r .operation) ≤ length debris → length (cutCells p (r .operation) debris cells) ≡ length cells
-  unfolding cutCells debrisNeeded
-  cut-long debris l n =
-      word-long (begunWord p (r .operation)) _ _ (blockCut p (begunBlock p (r .operation)) debris cells)
-      ∙ block-long p debris (begunBlock p (r .operation)) cells l (omega (arith, n))
-
   step-long : (e : Event) → Long (step p r cells e)
   unfolding Long step readEvent writeEvent waitEvent cutEvent
   step-long (read a) = checks _ (λ s l. by-test Long (not (ltb a (wordCount p))) (λ t. refl) (λ t. refl))
@@ -63,7 +49,7 @@ module _ (p : Part) (r : Device) (cells : List ℕ) where
       (λ u. waited-told p cells (r .command) (r .bits) n (moment (r .meter) (r .operation) cells) [] (sound-fit p (r .bits) (r .operation) (sound-operation p r s (r .operation) refl)) l .size)))
   step-long (cut debris) =
       checks _ (λ s l. by-test Long (ltb (length debris) (debrisNeeded p (r .operation))) (λ t. refl)
-      (λ t. cut-long debris l (ltb-false (length debris) (debrisNeeded p (r .operation)) t)))
+      (λ t. length-cut p (r .operation) debris cells l (ltb-false (length debris) (debrisNeeded p (r .operation)) t)))
 
 pub run-long : (p : Part) (r : Device) (cells : List ℕ) (es : List Event) → length (run p r cells es .cells) ≡ length cells
 unfolding run Long

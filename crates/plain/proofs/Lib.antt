@@ -9,3 +9,4 @@ pub mod Quick
 pub mod Rows
 pub mod HistoryLeaps
 pub mod Told
+pub mod CutCells

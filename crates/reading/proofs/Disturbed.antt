@@ -22,7 +22,8 @@ use Rattle.plain.specs.Sound.{timeSound, listSound, programSound, insideSound, 
 use Rattle.plain.specs.Figures.{eraseTime}
 use Rattle.plain.specs.Status.{insidePolls, polls, readingOn, rests}
 use Rattle.reading.specs.Mapped.{readingIn, insideAway, away, givesCells}
-use Rattle.reading.proofs.GivesCells.{and-left, and-right, reading-same, listed-may}
+use Rattle.plain.proofs.Tools.{both-left, both-right}
+use Rattle.reading.proofs.GivesCells.{reading-same, listed-may}
 
 -- a status word, a reading or a suspended block's word answers the read
 abbrev pub answered : Part → Command → Operation → (a : ℕ) → Bool
@@ -87,7 +88,7 @@ module _ (p : Part) (bits : Protection) (c : Command) (bank : ℕ) where
   at-program o q s e d =
       record {
         address = q .at;
-        in-part = ltb-true (q .at) (wordCount p) (and-left _ _ s);
+        in-part = ltb-true (q .at) (wordCount p) (both-left _ _ s);
         in-bank = sym (eqb-true bank (bankOf p (q .at)) (not-false (eqb bank (bankOf p (q .at))) e));
         disturbed = d;
       }
@@ -99,8 +100,8 @@ module _ (p : Part) (bits : Protection) (c : Command) (bank : ℕ) where
   unfolding listSound
   at-hand o w s e f =
       let b = w .hand in
-      let listed = and-left (has (w .list) b) _ s in
-      let below = ltb-true b blockCount (and-left (ltb b blockCount) _ (listed-may bits w b s listed)) in
+      let listed = both-left (has (w .list) b) _ s in
+      let below = ltb-true b blockCount (both-left (ltb b blockCount) _ (listed-may bits w b s listed)) in
       record {
         address = firstOf p b;
         in-part = first-in p b below;
@@ -114,7 +115,7 @@ module _ (p : Part) (bits : Protection) (c : Command) (bank : ℕ) where
   unfolding insideSound insideAway insidePolls polls
   at-inside r Nothing t s e = absurd (true≢false e)
   at-inside r (Runs q) t s e =
-      at-program (EraseSuspended r) q (and-left _ _ s) e
+      at-program (EraseSuspended r) q (both-left _ _ s) e
       (by-poll p c (EraseSuspended r) (q .at) (ap (λ (i : Inside). insidePolls p i (q .at)) t ∙ eq-eqb (bankOf p (q .at)) _ refl))
 
   not-away : (o : Operation) → operationSound p bits o ≡ true → bank < 4 → away p o bank ≡ false → Disturbed p c o bank
@@ -122,16 +123,16 @@ module _ (p : Part) (bits : Protection) (c : Command) (bank : ℕ) where
   not-away Idle s l e = absurd (true≢false e)
   not-away (Programming q) s l e = at-program _ q s e (by-poll p c (Programming q) (q .at) (eq-eqb (bankOf p (q .at)) _ refl))
   not-away (ProgramSuspended q) s l e = at-program _ q s e (by-rest p c (ProgramSuspended q) (q .at) (eq-eqb (blockOf p (q .at)) _ refl))
-  not-away (Window w) s l e = at-hand _ w (and-left _ _ s) e (λ a m n. by-poll p c (Window w) a (eq-eqb _ _ n))
-  not-away (Erasing w) s l e = at-hand _ w (and-left _ _ s) e (λ a m n. by-poll p c (Erasing w) a (eq-eqb _ _ n))
+  not-away (Window w) s l e = at-hand _ w (both-left _ _ s) e (λ a m n. by-poll p c (Window w) a (eq-eqb _ _ n))
+  not-away (Erasing w) s l e = at-hand _ w (both-left _ _ s) e (λ a m n. by-poll p c (Erasing w) a (eq-eqb _ _ n))
   not-away (EraseSuspended r) s l e = go (not (eqb bank (bankOfBlock (r .erase .hand)))) refl
     where
       go : (t : Bool) → not (eqb bank (bankOfBlock (r .erase .hand))) ≡ t → Disturbed p c (EraseSuspended r) bank
       go false h =
-          at-hand (EraseSuspended r) (r .erase) (and-left (listSound bits (r .erase)) _ (and-left _ (insideSound p bits (r .erase) (r .inside)) s)) h
+          at-hand (EraseSuspended r) (r .erase) (both-left (listSound bits (r .erase)) _ (both-left _ (insideSound p bits (r .erase) (r .inside)) s)) h
           (λ a m n. by-rest p c (EraseSuspended r) a m)
       go true h =
-          at-inside r (r .inside) refl (and-right (listSound bits (r .erase) && timeSound (r .erase .left) (eraseTime p)) _ s) (rw h at e)
+          at-inside r (r .inside) refl (both-right (listSound bits (r .erase) && timeSound (r .erase .left) (eraseTime p)) _ s) (rw h at e)
   not-away (ChipErasing w) s l e = anywhere (ChipErasing w) l (λ a n. by-poll p c (ChipErasing w) a refl)
 
 pub else-disturbed : (p : Part) (bits : Protection) (c : Command) (o : Operation) (bank : ℕ)

@@ -3,14 +3,11 @@ use Prim.Native.Nat.{ℕ, _<_}
 use mathlib.Core.Path.{_≡_, refl, sym, ap, _∙_}
 use mathlib.Core.Bool.{Bool, true, false, false≢true, _&&_, not}
 use mathlib.Core.List.{List}
-use native.Mathlib.Decide.{decLt}
 use native.Mathlib.Omega.{arith}
 use lib.Dec.{ltb, eqb}
 use lib.ListN.{getD}
 use borrow.Author.Tests.{eqb-true, eqb-false, ne-eqb, not-true, not-false}
-use Rattle.blocks.specs.Blocks.{has, some}
-use Rattle.blocks.proofs.Laws.{some-not}
-use Rattle.blocks.proofs.View.{has-past}
+use Rattle.blocks.specs.Blocks.{has}
 use Rattle.geometry.specs.declared.Part.{Part}
 use Rattle.geometry.specs.Parts.{blockCount, blockOf, bankOf, bankOfBlock}
 use Rattle.geometry.proofs.Laid.{laid}
@@ -24,16 +21,10 @@ use Rattle.plain.specs.declared.Operation.the-variants.{Idle, Programming, Prog
 use Rattle.plain.specs.declared.Command.{Command}
 use Rattle.plain.specs.declared.Command.the-variants.{Ground, Unlock, Unlocked, ProgramData, EraseSetup, EraseUnlock, EraseUnlocked, DybData, PpbSetup, PpbSetting, PpbClearing, Identity, DybReading}
 use Rattle.plain.specs.Sound.{mayErase, onlyThose, listSound, insideSound, operationSound}
+use Rattle.plain.proofs.Tools.{both-left, both-right}
+use Rattle.plain.proofs.Lists.{only-at}
 use Rattle.plain.specs.Status.{insidePolls, polls, readingOn, rests, look, seen}
 use Rattle.reading.specs.Mapped.{readingIn, insideAway, away, givesCells}
-
-pub and-left : (a b : Bool) → (a && b) ≡ true → a ≡ true
-and-left true b e = refl
-and-left false b e = e
-
-pub and-right : (a b : Bool) → (a && b) ≡ true → b ≡ true
-and-right true b e = e
-and-right false b e = absurd (false≢true e)
 
 -- a reading is on at an address if it is on in its bank
 pub reading-same : (p : Part) (c : Command) (a : ℕ) → readingOn p c a ≡ readingIn c (bankOf p a)
@@ -55,16 +46,7 @@ reading-same p DybReading a = refl
 -- a listed block may be erased
 pub listed-may : (bits : Protection) (w : Erase) (b : ℕ) → listSound bits w ≡ true → has (w .list) b ≡ true → mayErase bits (w .hand) b ≡ true
 unfolding listSound
-listed-may bits w b e m = go (decLt b 320)
-  where
-    only : some (λ k. has (w .list) k && not (mayErase bits (w .hand) k)) 320 ≡ false
-    only = not-true _ (and-right (has (w .list) (w .hand)) (onlyThose (mayErase bits (w .hand)) (w .list)) e)
-
-    go : Dec (b < 320) → mayErase bits (w .hand) b ≡ true
-    go (yes l) =
-        not-false (mayErase bits (w .hand) b)
-        (ap (λ (t : Bool). t && not (mayErase bits (w .hand) b)) (sym m) ∙ some-not (λ k. has (w .list) k && not (mayErase bits (w .hand) k)) 320 b only l)
-    go (no l) = absurd (false≢true (sym (has-past (w .list) b (omega arith)) ∙ m))
+listed-may bits w b e m = only-at (mayErase bits (w .hand)) (w .list) b (both-right (has (w .list) (w .hand)) (onlyThose (mayErase bits (w .hand)) (w .list)) e) m
 
 module _ (p : Part) (a : ℕ) where
   none-inside : (i : Inside) → insideAway p i (bankOf p a) ≡ true → insidePolls p i a ≡ false
@@ -80,14 +62,14 @@ module _ (p : Part) (a : ℕ) where
   none-polls (Window w) e = not-true (eqb (bankOf p a) (bankOfBlock (w .hand))) e
   none-polls (Erasing w) e = not-true (eqb (bankOf p a) (bankOfBlock (w .hand))) e
   none-polls (EraseSuspended r) e =
-      none-inside (r .inside) (and-right (not (eqb (bankOf p a) (bankOfBlock (r .erase .hand)))) (insideAway p (r .inside) (bankOf p a)) e)
+      none-inside (r .inside) (both-right (not (eqb (bankOf p a) (bankOfBlock (r .erase .hand)))) (insideAway p (r .inside) (bankOf p a)) e)
   none-polls (ChipErasing w) e = absurd (false≢true e)
 
   -- "an erase list .. lies in one bank": a listed block is in the bank of the block in hand
   one-bank : (bits : Protection) (w : Erase) → listSound bits w ≡ true → has (w .list) (blockOf p a) ≡ true → bankOf p a ≡ bankOfBlock (w .hand)
   one-bank bits w e m =
       let b = blockOf p a in
-      let near = and-left (eqb (bankOfBlock b) (bankOfBlock (w .hand))) (not (protected bits b)) (and-right (ltb b blockCount) _ (listed-may bits w b e m)) in
+      let near = both-left (eqb (bankOfBlock b) (bankOfBlock (w .hand))) (not (protected bits b)) (both-right (ltb b blockCount) _ (listed-may bits w b e m)) in
       laid p .one-bank a ∙ eqb-true (bankOfBlock b) (bankOfBlock (w .hand)) near
 
   none-rests : (bits : Protection) (o : Operation) → operationSound p bits o ≡ true → away p o (bankOf p a) ≡ true → rests p o a ≡ false
@@ -108,8 +90,8 @@ module _ (p : Part) (a : ℕ) where
       go : (t : Bool) → has (r .erase .list) (blockOf p a) ≡ t → has (r .erase .list) (blockOf p a) ≡ false
       go false m = m
       go true m =
-          let listed = and-left (listSound bits (r .erase)) _ (and-left _ (insideSound p bits (r .erase) (r .inside)) s) in
-          let apart = not-true (eqb (bankOf p a) hand) (and-left _ (insideAway p (r .inside) (bankOf p a)) e) in
+          let listed = both-left (listSound bits (r .erase)) _ (both-left _ (insideSound p bits (r .erase) (r .inside)) s) in
+          let apart = not-true (eqb (bankOf p a) hand) (both-left _ (insideAway p (r .inside) (bankOf p a)) e) in
           absurd (eqb-false (bankOf p a) hand apart (one-bank bits (r .erase) listed m))
   none-rests bits (ChipErasing w) s e = refl
 
@@ -117,6 +99,6 @@ pub gives-cells : (p : Part) (bits : Protection) (c : Command) (o : Operation) (
     → operationSound p bits o ≡ true → givesCells p c o (bankOf p a) ≡ true → look p bits c o cells a ≡ seen (getD cells a 0) o
 unfolding look givesCells
 gives-cells p bits c o cells a s e =
-    let clear = and-right (not (readingIn c (bankOf p a))) (away p o (bankOf p a)) e in
-    let silent = not-true (readingIn c (bankOf p a)) (and-left (not (readingIn c (bankOf p a))) (away p o (bankOf p a)) e) in
+    let clear = both-right (not (readingIn c (bankOf p a))) (away p o (bankOf p a)) e in
+    let silent = not-true (readingIn c (bankOf p a)) (both-left (not (readingIn c (bankOf p a))) (away p o (bankOf p a)) e) in
     rw (none-polls p a o clear, reading-same p c a, silent, none-rests p a bits o s clear)
