@@ -24,19 +24,28 @@ pub fn e() -> bool {
 pub fn f() -> bool {
     let mut words = [0xffffu16; 16384];
     let cells: &mut [u16] = &mut words;
-    events::put(cells, 63, 0);
-    events::put(cells, 64, 0);
-    events::put(cells, 127, 0);
-    events::put(cells, 128, 0);
+    clear_edges(cells);
     let mut last = events::fresh();
     last = commands::block_erase(last, cells, 64);
     let mut right = line::answer(true, b"f answer ", last, 0);
     last = events::wait(last, cells, 700050);
-    right = line::word(right, b", then ", events::cell(cells, 63), 0);
-    right = line::word(right, b" ", events::cell(cells, 64), 0xffff);
-    right = line::word(right, b" ", events::cell(cells, 127), 0xffff);
-    right = line::word(right, b" ", events::cell(cells, 128), 0);
+    right = edges(right, cells);
     line::end(line::meter(right, last, 700050, 11900000750))
+}
+
+// The first and last word of block 8 and their neighbours.
+fn clear_edges(cells: &mut [u16]) {
+    events::put(cells, 63, 0);
+    events::put(cells, 64, 0);
+    events::put(cells, 127, 0);
+    events::put(cells, 128, 0);
+}
+
+fn edges(right: bool, cells: &[u16]) -> bool {
+    let before = line::word(right, b", then ", events::cell(cells, 63), 0);
+    let first = line::word(before, b" ", events::cell(cells, 64), 0xffff);
+    let last = line::word(first, b" ", events::cell(cells, 127), 0xffff);
+    line::word(last, b" ", events::cell(cells, 128), 0)
 }
 
 // "Block 0 in hand, begun: 7 words of debris refused, 8 taken." It is begun a microsecond after its window.
@@ -61,8 +70,13 @@ pub fn j() -> bool {
     right = line::word(right, b" ", events::cell(cells, 0), 0xffff);
     last = events::cut(last, cells, &debris);
     right = line::answer(right, b", 8 words: ", last, 0);
-    right = line::word(right, b" ", events::cell(cells, 0), 0x1111);
-    right = line::word(right, b" ", events::cell(cells, 7), 0x8888);
-    right = line::word(right, b" ", events::cell(cells, 8), 0xffff);
+    right = littered(right, cells);
     line::end(line::meter(right, last, 51, 17750))
+}
+
+// The first and last word of block 0, and the one after it.
+fn littered(right: bool, cells: &[u16]) -> bool {
+    let first = line::word(right, b" ", events::cell(cells, 0), 0x1111);
+    let last = line::word(first, b" ", events::cell(cells, 7), 0x8888);
+    line::word(last, b" ", events::cell(cells, 8), 0xffff)
 }

@@ -45,9 +45,14 @@ pub fn k() -> bool {
     right = line::word(right, b", then ", last.word, 0xffff);
     right = line::word(right, b" ", events::cell(cells, 5951), 0);
     right = line::meter(right, last, 500000, 17000 * 500000);
-    last = protect(last, cells, 100);
-    last = commands::chip_erase(last, cells);
-    line::end(line::answer(right, b", none left: ", last, 9))
+    none_left(right, last, cells)
+}
+
+// Row k goes on: block 100 is protected too.
+fn none_left(right: bool, last: Answer, cells: &[u16]) -> bool {
+    let all = protect(last, cells, 100);
+    let refused = commands::chip_erase(all, cells);
+    line::end(line::answer(right, b", none left: ", refused, 9))
 }
 
 // "30H for a protected block of another bank in the window: BANK." The DYB of block 39 is set and read first.
