@@ -1,8 +1,5 @@
 // A row's line: each figure is written as it came out, and held to the paper's. `right` says whether all did so far.
-ghost use mathlib.Core.Path.{_≡_};
-ghost use Rattle.plain.specs.Refusals.{number};
 use plain::Answer;
-use plain::Refusal;
 
 // The first words of a line, with no figure yet.
 pub fn begin(label: &[u8]) -> bool {
@@ -22,7 +19,7 @@ pub fn number(right: bool, label: &[u8], found: u64, stated: u64) -> bool {
 // The refusal of an answer, by the paper's number.
 pub fn answer(right: bool, label: &[u8], found: Answer, stated: u64) -> bool {
     let refusal = found.refusal;
-    number(right, label, number_of(refusal), stated)
+    number(right, label, machine::number_of(refusal), stated)
 }
 
 // A word in four digits, as the paper writes the cells.
@@ -99,25 +96,4 @@ fn digit(word: u16) -> u8 {
         return b'0' + value;
     }
     b'A' - 10 + value
-}
-
-// Document 01, "Refusals by number".
-fn number_of(refusal: Refusal) -> u64
-    ensures { λ r. ⌜ r ≡ number refusal ⌝ }
-{
-    match refusal {
-        Refusal::Done => 0,
-        Refusal::State => 1,
-        Refusal::Cells => 2,
-        Refusal::Address => 3,
-        Refusal::Clock => 4,
-        Refusal::Debris => 5,
-        Refusal::Busy => 6,
-        Refusal::Sequence => 7,
-        Refusal::Bank => 8,
-        Refusal::Protected => 9,
-        Refusal::Suspended => 10,
-        Refusal::Locked => 11,
-        Refusal::Inner => 12,
-    }
 }

@@ -2,6 +2,7 @@
 // word, wait and lent length is answered; the caller need have checked nothing.
 ghost use mathlib.Core.Path.{_≡_};
 ghost use Rattle.plain.specs.Record.{fresh};
+ghost use Rattle.plain.specs.Refusals.{number};
 ghost use Rattle.plain.specs.Sound.{sound};
 ghost use Rattle.plain.specs.Machine.{readEvent, writeEvent, waitEvent, cutEvent};
 ghost use Rattle.machine.specs.Asked.{exposedNow, readsCells};
@@ -151,4 +152,25 @@ pub fn reads_cells(part: Part, device: Device, bank: usize) -> bool
     let command = device.command;
     let operation = device.operation;
     reading::gives_cells(part, command, operation, bank)
+}
+
+// Document 01, "Refusals by number".
+pub fn number_of(refusal: Refusal) -> u64
+    ensures { λ r. ⌜ r ≡ number refusal ⌝ }
+{
+    match refusal {
+        Refusal::Done => 0,
+        Refusal::State => 1,
+        Refusal::Cells => 2,
+        Refusal::Address => 3,
+        Refusal::Clock => 4,
+        Refusal::Debris => 5,
+        Refusal::Busy => 6,
+        Refusal::Sequence => 7,
+        Refusal::Bank => 8,
+        Refusal::Protected => 9,
+        Refusal::Suspended => 10,
+        Refusal::Locked => 11,
+        Refusal::Inner => 12,
+    }
 }

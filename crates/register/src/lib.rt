@@ -19,6 +19,7 @@ mod operations;
 mod running;
 mod states;
 
+pub use cycles::is_first_unlock;
 use running::at_rest;
 use running::in_window;
 use running::or_busy;

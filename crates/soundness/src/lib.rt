@@ -1,6 +1,8 @@
 // Which records are sound (document 01, "A record is sound when .."), and the record of a fresh device.
 ghost use mathlib.Core.Path.{_≡_};
-ghost use Rattle.plain.specs.Record.{fresh};
+ghost use Rattle.plain.specs.Record.{fresh, device};
+ghost use Rattle.plain.specs.declared.Command.the-variants.{Ground};
+ghost use Rattle.plain.specs.declared.Operation.the-variants.{Idle};
 ghost use Rattle.plain.specs.Sound.{meterSound, sound};
 
 mod commands;
@@ -48,6 +50,19 @@ pub fn is_sound(part: Part, device: Device) -> bool
     }
     let command = device.command;
     commands::command_sound(operation, command)
+}
+
+// The same of a device at rest, by all there is to it.
+pub fn is_sound_at_rest(part: Part, meter: Meter, bits: Protection) -> bool
+    ensures { λ r. ⌜ r ≡ sound part (device meter Ground Idle bits) ⌝ }
+{
+    if !meter_sound(part, meter) {
+        return false;
+    }
+    if bits.has_stray() {
+        return false;
+    }
+    true
 }
 
 // "the clock is at most the limit; charge is at most 17,000 times the clock": in this order, so that the product fits.

@@ -8,6 +8,7 @@ mod currents;
 mod erases;
 mod programs;
 
+pub use currents::rested;
 use geometry::Part;
 use meter::Meter;
 use plain::Operation;

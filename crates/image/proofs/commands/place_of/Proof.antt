@@ -1,11 +1,13 @@
+use Rattle.image.specs.Image.{commandPlace}
 use borrow.Author.Needs.{needs}
-use Rattle.plain.specs.Refusals.{number}
-use Rattle.bench.proofs.line.number_of.Statement.{statement}
-use Rattle.bench.proofs.line.number_of.Tie as tie
+use Rattle.image.proofs.commands.place_of.Statement.{statement}
+use Rattle.image.proofs.commands.place_of.Tie as tie
+use Rattle.image.proofs.commands.place_of.Reads as reads
+use Rattle.image.proofs.commands.place_of.Lts as lts
 
-pub number-of-spec : {M : Type 1} → statement M
-unfolding number
-number-of-spec =
+pub place-of-spec : {M : Type 1} → statement M
+unfolding commandPlace
+place-of-spec =
     tie.close
     (tie.spec
     (λ c. search needs)  -- enum-told
@@ -17,10 +19,10 @@ number-of-spec =
     (λ c. search needs)  -- enum-told-7
     (λ c. search needs)  -- enum-told-8
     (λ c. search needs)  -- enum-told-9
+    (λ c. search needs)  -- enum-known-command
     (λ c. search needs)  -- enum-told-10
+    (λ c. search needs)  -- enum-known-command-2
     (λ c. search needs)  -- enum-told-11
-    (λ c. search needs)  -- enum-told-12
-    (λ c. search needs)  -- enum-told-13
     (λ c. search needs)  -- returns
     (λ c. search needs)  -- returns-2
     (λ c. search needs)  -- returns-3

@@ -1,0 +1,25 @@
+use mathlib.Core.Path.{sym, ap, _∙_}
+use Rattle.machine.proofs.Events.{is-so, unsound}
+use Rattle.emulator.proofs.Faces.{well, whole, cut-none, cut-some}
+use Rattle.emulator.specs.Face.{Faced, packed}
+use Rattle.plain.specs.Refusals.{number}
+use borrow.Author.Needs.{needs}
+use Rattle.emulator.proofs.k5l_cut.Statement.{statement}
+use Rattle.emulator.proofs.k5l_cut.Tie as tie
+
+pub k5l-cut-spec : {M : Type 1} → statement M
+unfolding number
+k5l-cut-spec =
+    tie.close
+    (tie.spec
+    (λ c κs. search needs)  -- stands-requires
+    (λ c. search needs)  -- same-length
+    (λ c. let same = cut-none _ _ _ _ (unsound _ _ (c .before .stands .ensures) (c .if1 .taken)) in (sym (ap (λ (f : Faced). f .refusal) same), (sym (ap (λ (f : Faced). f .image) same), sym (ap (λ (f : Faced). f .cells) same))))  -- returns
+    (λ c κs. whole _ _ (is-so _ _ (c .before .before .stands .ensures) (c .before .if1 .left)))  -- device-of-requires
+    (λ c κs. search needs)  -- part-named-requires
+    (λ c κs. search needs)  -- cut-requires
+    (λ c κs. well _ _ (is-so _ _ (c .before .before .before .before .before .before .before .before .before .before .stands .ensures) (c .before .before .before .before .before .before .before .before .before .if1 .left)))  -- put-requires
+    (λ c κs. search needs)  -- number-of-requires
+    (λ c. search needs)  -- same-length-2
+    (λ c. search needs)  -- same-length-3
+    (λ c. let same = cut-some _ _ _ _ (is-so _ _ (c .before .before .before .before .before .before .before .before .before .before .before .before .before .before .stands .ensures) (c .before .before .before .before .before .before .before .before .before .before .before .before .before .if1 .left)) in (rw (c .number-of .ensures, c .before .before .before .before .before .before .before .before .cut .ensures .0, c .before .before .before .before .before .before .before .before .before .before .part-named .ensures, c .before .before .before .before .before .before .before .before .before .before .before .device-of .ensures) (sym (ap (λ (f : Faced). f .refusal) same)), (rw (c .before .before .before .put .ensures, c .before .before .before .before .before .before .before .before .cut .ensures .0, c .before .before .before .before .before .before .before .before .before .before .part-named .ensures, c .before .before .before .before .before .before .before .before .before .before .before .device-of .ensures) (sym (ap (λ (f : Faced). f .image) same)), rw (c .before .before .before .before .before .before .before .before .cut .ensures .1, c .before .before .before .before .before .before .before .before .before .before .part-named .ensures, c .before .before .before .before .before .before .before .before .before .before .before .device-of .ensures) (sym (ap (λ (f : Faced). f .cells) same))))))  -- returns-2

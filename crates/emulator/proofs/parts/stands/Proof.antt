@@ -1,0 +1,15 @@
+use Rattle.emulator.specs.Face.{stands}
+use borrow.Author.Tests.{not-true, not-false, eq-eqb, ne-eqb}
+use borrow.Author.Needs.{needs}
+use Rattle.emulator.proofs.parts.stands.Statement.{statement}
+use Rattle.emulator.proofs.parts.stands.Tie as tie
+
+pub stands-spec : {M : Type 1} → statement M
+unfolding stands
+stands-spec =
+    tie.close
+    (tie.spec
+    (λ c κs. search needs)  -- is-part-requires
+    (λ c. rw (← c .before .is-part .ensures, not-true (c .before .is-part .result) (c .if1 .taken)))  -- returns
+    (λ c κs. search needs)  -- is-well-formed-requires
+    (λ c. rw (c .is-well-formed .ensures, ← c .before .before .is-part .ensures, not-false (c .before .before .is-part .result) (c .before .if1 .left))))  -- returns-2

@@ -1,0 +1,5 @@
+pub mod Words
+pub mod Canonical
+pub mod Round
+pub mod Stored
+pub mod Rest

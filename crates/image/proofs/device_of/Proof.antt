@@ -1,0 +1,27 @@
+use Rattle.image.specs.Image.{deviceOf}
+use borrow.Author.Needs.{needs}
+use Rattle.image.proofs.device_of.Statement.{statement}
+use Rattle.image.proofs.device_of.Tie as tie
+use Rattle.image.proofs.device_of.Reads as reads
+use Rattle.image.proofs.device_of.Lts as lts
+use Rattle.image.proofs.bits_of.Reads as bits-of-reads
+use Rattle.image.proofs.commands.command_of.Reads as command-of-reads
+use Rattle.image.proofs.operations.erase_of.Reads as erase-of-reads
+use Rattle.image.proofs.operations.operation_of.Reads as operation-of-reads
+use Rattle.image.proofs.operations.program_of.Reads as program-of-reads
+
+pub device-of-spec : {M : Type 1} → statement M
+unfolding deviceOf
+device-of-spec =
+    tie.close
+    (tie.spec
+    (λ c. search needs)  -- shared-slice-read-command-of
+    (λ c. search needs)  -- shared-slice-read-command-of-2
+    (λ c κs. search needs)  -- command-of-requires
+    (λ c κs. search needs)  -- erase-of-requires
+    (λ c κs. search needs)  -- program-of-requires
+    (λ c. search needs)  -- shared-slice-read-operation-of
+    (λ c κs. search needs)  -- operation-of-requires
+    (λ c κs. search needs)  -- meter-of-requires
+    (λ c κs. search needs)  -- bits-of-requires
+    (λ c. rw (c .bits-of .ensures, c .before .meter-of .ensures, c .before .before .operation-of .ensures, c .before .before .before .before .program-of .ensures, c .before .before .before .before .before .erase-of .ensures, c .before .before .before .before .before .before .command-of .ensures)))  -- returns

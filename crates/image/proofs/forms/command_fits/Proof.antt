@@ -1,0 +1,16 @@
+use borrow.Author.Tests.{eq-eqb, le-ltb, lt-ltb, ne-eqb}
+use Rattle.image.specs.Image.{commandFits}
+use Rattle.image.proofs.forms.command_fits.Statement.{statement}
+use Rattle.image.proofs.forms.command_fits.Tie as tie
+use Rattle.image.proofs.forms.command_fits.Reads as reads
+use Rattle.image.proofs.forms.command_fits.Lts as lts
+
+pub command-fits-spec : {M : Type 1} → statement M
+unfolding commandFits
+command-fits-spec =
+    tie.close
+    (tie.spec
+    (λ c. rw (le-ltb _ _ (c .if1 .taken)))  -- returns
+    (λ c. rw (lt-ltb _ _ (c .before .if1 .left), eq-eqb _ _ (c .if2 .taken)))  -- returns-2
+    (λ c. rw (lt-ltb _ _ (c .before .before .if1 .left), ne-eqb _ _ (c .before .if2 .left), eq-eqb _ _ (c .if3 .taken)))  -- returns-3
+    (λ c. rw (lt-ltb _ _ (c .before .before .if1 .left), ne-eqb _ _ (c .before .if2 .left), ne-eqb _ _ (c .if3 .left))))  -- returns-4

@@ -1,0 +1,20 @@
+use Rattle.image.specs.Stored.{withCommand}
+use borrow.Author.Needs.{needs}
+use Rattle.image.proofs.put_command.Statement.{statement}
+use Rattle.image.proofs.put_command.Tie as tie
+use Rattle.image.proofs.put_command.Reads as reads
+use Rattle.image.proofs.put_command.Lts as lts
+use Rattle.image.proofs.commands.number_of.Reads as number-of-reads
+use Rattle.image.proofs.commands.place_of.Reads as place-of-reads
+
+pub put-command-spec : {M : Type 1} → statement M
+unfolding withCommand
+put-command-spec =
+    tie.close
+    (tie.spec
+    (λ c κs. search needs)  -- number-of-requires
+    (λ c. search needs)  -- slice-write-words
+    (λ c κs. search needs)  -- place-of-requires
+    (λ c. search needs)  -- slice-write-words-2
+    (λ c. search needs)  -- same-length
+    (λ c. rw (c .place-of .ensures, c .before .number-of .ensures)))  -- returns

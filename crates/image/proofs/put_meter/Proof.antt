@@ -1,0 +1,17 @@
+use mathlib.Core.Path.{refl}
+use Rattle.image.specs.Stored.{withMeter}
+use borrow.Author.Needs.{needs}
+use Rattle.image.proofs.put_meter.Statement.{statement}
+use Rattle.image.proofs.put_meter.Tie as tie
+use Rattle.image.proofs.put_meter.Reads as reads
+use Rattle.image.proofs.put_meter.Lts as lts
+
+pub put-meter-spec : {M : Type 1} → statement M
+unfolding withMeter
+put-meter-spec =
+    tie.close
+    (tie.spec
+    (λ c. search needs)  -- slice-write-words
+    (λ c. search needs)  -- slice-write-words-2
+    (λ c. search needs)  -- same-length
+    (λ c. refl))  -- returns

@@ -1,0 +1,224 @@
+/*
+ * What an event costs, through the header's functions or on the plain model of tests/c:
+ *
+ *     speed list                             the kinds of event, each with a number of events that takes some time
+ *     speed KIND library|model N RUNS        nanoseconds for an event: the best of RUNS runs of N events each
+ *     speed KIND library|model N             one run of N events, for who counts instructions
+ *
+ * All is done on the full part. Compiled with -DMODEL_TRUSTS the model does not judge the record.
+ */
+#define _POSIX_C_SOURCE 200809L
+
+#include "k5l2931cam.h"
+#include "model.h"
+
+#include <inttypes.h>
+#include <stdio.h>
+#include <stdlib.h>
+#include <string.h>
+#include <time.h>
+
+/* Block 39 is the first of bank 1B's 96. */
+enum { BLOCK_AT = 1048576, BLOCK_WORDS = 32768, BANK_BLOCKS = 96, OTHER_BANK_AT = 100 };
+
+static uint16_t *cells, debris[BLOCK_WORDS];
+
+/* Each side's record, and what it is brought back to before each event of some kinds. */
+static uint64_t image[K5L_RECORD_WORDS], image_before[K5L_RECORD_WORDS];
+static struct model_record record, record_before;
+
+/* The answers go here, so that no call is left out. */
+static volatile uint64_t answer;
+
+/* The events of both sides, for the preparations and for the loops. */
+struct side {
+    const char *name;
+    void (*restore)(void);
+    void (*read)(uint64_t address);
+    void (*write)(uint64_t address, uint16_t word);
+    void (*wait)(uint64_t microseconds);
+    void (*cut)(size_t debris_length);
+};
+
+static void library_restore(void) { memcpy(image, image_before, sizeof image); }
+static void library_read(uint64_t address)
+{
+    answer = k5l_read(K5L_FULL, image, K5L_RECORD_WORDS, cells, K5L_FULL_WORDS, address);
+}
+static void library_write(uint64_t address, uint16_t word)
+{
+    answer = k5l_write(K5L_FULL, image, K5L_RECORD_WORDS, cells, K5L_FULL_WORDS, address, word);
+}
+static void library_wait(uint64_t microseconds)
+{
+    answer = k5l_wait(K5L_FULL, image, K5L_RECORD_WORDS, cells, K5L_FULL_WORDS, microseconds);
+}
+static void library_cut(size_t debris_length)
+{
+    answer = k5l_cut(K5L_FULL, image, K5L_RECORD_WORDS, cells, K5L_FULL_WORDS, debris, debris_length);
+}
+
+static void model_side_restore(void) { memcpy(&record, &record_before, sizeof record); }
+static void model_side_read(uint64_t address)
+{
+    struct model_answer given = model_read(MODEL_FULL, &record, cells, K5L_FULL_WORDS, address);
+
+    answer = given.refusal << 16 | given.word;
+}
+static void model_side_write(uint64_t address, uint16_t word)
+{
+    answer = model_write(MODEL_FULL, &record, K5L_FULL_WORDS, address, word);
+}
+static void model_side_wait(uint64_t microseconds)
+{
+    answer = model_wait(MODEL_FULL, &record, cells, K5L_FULL_WORDS, microseconds);
+}
+static void model_side_cut(size_t debris_length)
+{
+    answer = model_cut(MODEL_FULL, &record, cells, K5L_FULL_WORDS, debris, debris_length);
+}
+
+static const struct side sides[] = {
+    { "library", library_restore, library_read, library_write, library_wait, library_cut },
+    { "model", model_side_restore, model_side_read, model_side_write, model_side_wait, model_side_cut },
+};
+
+/* States that events are measured in. */
+static void prepare_idle(const struct side *side) { (void)side; }
+
+static void write_command(const struct side *side, uint16_t third)
+{
+    side->write(0x555, 0xAA);
+    side->write(0x2AA, 0x55);
+    side->write(0x555, third);
+}
+
+static void write_program(const struct side *side)
+{
+    write_command(side, 0xA0);
+    side->write(OTHER_BANK_AT, 0x1234);
+}
+
+static void prepare_program(const struct side *side)
+{
+    write_program(side);
+    side->wait(3);
+}
+
+/* So many blocks of bank 1B listed, and the erase of the first begun. */
+static void prepare_erase_of(const struct side *side, unsigned blocks)
+{
+    write_command(side, 0x80);
+    side->write(0x555, 0xAA);
+    side->write(0x2AA, 0x55);
+    for (uint64_t block = 0; block < blocks; block++)
+        side->write(BLOCK_AT + block * BLOCK_WORDS, 0x30);
+    side->wait(50 + 1000);
+}
+
+static void prepare_erase(const struct side *side) { prepare_erase_of(side, BANK_BLOCKS); }
+static void prepare_short_erase(const struct side *side) { prepare_erase_of(side, 1); }
+
+static void prepare_last_microsecond(const struct side *side)
+{
+    prepare_erase_of(side, 1);
+    side->wait(700000 - 1000 - 1);
+}
+
+/* The events. */
+static void nothing(const struct side *side) { (void)side; }
+static void read_other_bank(const struct side *side) { side->read(OTHER_BANK_AT); }
+static void read_bank(const struct side *side) { side->read(BLOCK_AT); }
+static void write_reset(const struct side *side) { side->write(OTHER_BANK_AT, 0xF0); }
+static void write_out_of_turn(const struct side *side) { side->write(OTHER_BANK_AT, 0x1234); }
+static void wait_1(const struct side *side) { side->wait(1); }
+static void wait_long(const struct side *side) { side->wait(10000000000000); }
+static void fill_block(const struct side *side) { (void)side; memset(cells + BLOCK_AT, 0xFF, BLOCK_WORDS * sizeof *cells); }
+static void cut_word(const struct side *side) { side->cut(1); }
+static void cut_block(const struct side *side) { side->cut(BLOCK_WORDS); }
+
+/* `answer` is what the first event must be answered: what is measured is what is meant. */
+static const struct kind {
+    const char *name;
+    unsigned long events;
+    uint64_t answer;
+    bool restored;
+    void (*prepare)(const struct side *side);
+    void (*event)(const struct side *side);
+} kinds[] = {
+    { "nothing", 300000, K5L_DONE, false, prepare_idle, nothing },
+    { "nothing-record-restored", 300000, K5L_DONE, true, prepare_idle, nothing },
+    { "array-read-idle", 300000, K5L_DONE, false, prepare_idle, read_other_bank },
+    { "array-read-other-bank-erases", 300000, K5L_DONE, false, prepare_erase, read_other_bank },
+    { "status-read-96-blocks", 300000, 0x4C, false, prepare_erase, read_bank },
+    { "write-refused-sequence", 300000, K5L_SEQUENCE, false, prepare_idle, write_out_of_turn },
+    { "write-refused-busy", 300000, K5L_BUSY, false, prepare_erase, write_reset },
+    { "program-four-writes-restored", 100000, K5L_DONE, true, prepare_idle, write_program },
+    { "wait-1us-idle-restored", 300000, K5L_DONE, true, prepare_idle, wait_1 },
+    { "wait-1e13us-idle-restored", 300000, K5L_DONE, true, prepare_idle, wait_long },
+    { "wait-1us-96-blocks", 300000, K5L_DONE, false, prepare_erase, wait_1 },
+    { "erase-finish-64KiB-restored", 2000, K5L_DONE, true, prepare_last_microsecond, wait_1 },
+    { "memset-64KiB", 2000, K5L_DONE, false, prepare_idle, fill_block },
+    { "cut-begun-program-restored", 300000, K5L_DONE, true, prepare_program, cut_word },
+    { "cut-begun-erase-64KiB-restored", 2000, K5L_DONE, true, prepare_short_erase, cut_block },
+};
+enum { KINDS = sizeof kinds / sizeof *kinds };
+
+static double run(const struct kind *kind, const struct side *side, unsigned long events)
+{
+    struct timespec start, end;
+
+    clock_gettime(CLOCK_MONOTONIC, &start);
+    for (unsigned long i = 0; i < events; i++) {
+        if (kind->restored)
+            side->restore();
+        kind->event(side);
+    }
+    clock_gettime(CLOCK_MONOTONIC, &end);
+    return ((double)(end.tv_sec - start.tv_sec) * 1e9 + (double)(end.tv_nsec - start.tv_nsec)) / (double)events;
+}
+
+static int measure(const struct kind *kind, const struct side *side, unsigned long events, int runs)
+{
+    double best;
+
+    cells = calloc(K5L_FULL_WORDS, sizeof *cells);
+    if (cells == NULL || events == 0 || k5l_fresh(image, K5L_RECORD_WORDS) != K5L_DONE)
+        return 2;
+    record = model_fresh();
+    kind->prepare(side);
+    memcpy(image_before, image, sizeof image);
+    record_before = record;
+    answer = K5L_DONE;
+    kind->event(side);
+    side->restore();
+    if (answer != kind->answer) {
+        fprintf(stderr, "speed: %s is answered %" PRIu64 " by the %s\n", kind->name, answer, side->name);
+        return 1;
+    }
+    best = run(kind, side, events);
+    for (int i = 1; i < runs; i++) {
+        double taken = run(kind, side, events);
+
+        best = taken < best ? taken : best;
+    }
+    if (runs > 0)
+        printf("%.1f\n", best);
+    free(cells);
+    return 0;
+}
+
+int main(int count, char **arguments)
+{
+    if (count == 2 && strcmp(arguments[1], "list") == 0) {
+        for (int i = 0; i < KINDS; i++)
+            printf("%s %lu\n", kinds[i].name, kinds[i].events);
+        return 0;
+    }
+    for (int i = 0; count >= 4 && i < KINDS; i++)
+        for (int j = 0; j < 2; j++)
+            if (strcmp(arguments[1], kinds[i].name) == 0 && strcmp(arguments[2], sides[j].name) == 0)
+                return measure(&kinds[i], &sides[j], strtoul(arguments[3], NULL, 0), count > 4 ? atoi(arguments[4]) : 0);
+    fprintf(stderr, "speed list | speed KIND library|model N [RUNS]\n");
+    return 2;
+}

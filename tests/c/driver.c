@@ -1,0 +1,103 @@
+/* See driver.h. */
+#include "driver.h"
+
+#include <stdio.h>
+#include <stdlib.h>
+#include <string.h>
+
+uint64_t part, record[K5L_RECORD_WORDS];
+uint16_t *cells;
+size_t length;
+
+static uint64_t saved_record[K5L_RECORD_WORDS];
+static uint16_t *saved_cells;
+
+void take_part(uint64_t which)
+{
+    part = which;
+    length = which == K5L_FULL ? K5L_FULL_WORDS : K5L_SMALL_WORDS;
+    cells = realloc(cells, length * sizeof *cells);
+    saved_cells = realloc(saved_cells, length * sizeof *saved_cells);
+    if (cells == NULL || saved_cells == NULL) {
+        fprintf(stderr, "no memory for %zu cells\n", length);
+        exit(2);
+    }
+    fresh();
+}
+
+void fresh(void)
+{
+    SAME(k5l_fresh(record, K5L_RECORD_WORDS), K5L_DONE);
+    memset(cells, 0xFF, length * sizeof *cells);
+}
+
+uint64_t bus_read(uint64_t address)
+{
+    return k5l_read(part, record, K5L_RECORD_WORDS, cells, length, address);
+}
+
+uint64_t bus_write(uint64_t address, uint16_t word)
+{
+    return k5l_write(part, record, K5L_RECORD_WORDS, cells, length, address, word);
+}
+
+uint64_t pass(uint64_t microseconds)
+{
+    return k5l_wait(part, record, K5L_RECORD_WORDS, cells, length, microseconds);
+}
+
+uint64_t cut(const uint16_t *debris, size_t debris_length)
+{
+    return k5l_cut(part, record, K5L_RECORD_WORDS, cells, length, debris, debris_length);
+}
+
+uint64_t enter(uint16_t third)
+{
+    SAME(bus_write(0x555, 0xAA), K5L_DONE);
+    SAME(bus_write(0x2AA, 0x55), K5L_DONE);
+    return bus_write(0x555, third);
+}
+
+uint64_t program(uint64_t address, uint16_t word)
+{
+    SAME(enter(0xA0), K5L_DONE);
+    return bus_write(address, word);
+}
+
+uint64_t erase(uint64_t address, uint16_t last)
+{
+    SAME(enter(0x80), K5L_DONE);
+    SAME(bus_write(0x555, 0xAA), K5L_DONE);
+    SAME(bus_write(0x2AA, 0x55), K5L_DONE);
+    return bus_write(address, last);
+}
+
+uint64_t set_dyb(uint64_t address, uint16_t value)
+{
+    SAME(enter(0x48), K5L_DONE);
+    return bus_write(address, value);
+}
+
+uint64_t set_ppb(uint64_t address)
+{
+    SAME(enter(0x60), K5L_DONE);
+    SAME(bus_write(address, 0x68), K5L_DONE);
+    return bus_write(address, 0x48);
+}
+
+uint64_t clock_now(void) { return k5l_clock(part, record, K5L_RECORD_WORDS); }
+uint64_t charge_now(void) { return k5l_charge(part, record, K5L_RECORD_WORDS); }
+uint64_t exposed_block(void) { return k5l_exposed_block(part, record, K5L_RECORD_WORDS); }
+uint64_t exposed_word(void) { return k5l_exposed_word(part, record, K5L_RECORD_WORDS); }
+bool reads_cells(uint64_t bank) { return k5l_reads_cells(part, record, K5L_RECORD_WORDS, bank); }
+
+void save(void)
+{
+    memcpy(saved_record, record, sizeof record);
+    memcpy(saved_cells, cells, length * sizeof *cells);
+}
+
+bool is_saved(void)
+{
+    return memcmp(saved_record, record, sizeof record) == 0 && memcmp(saved_cells, cells, length * sizeof *cells) == 0;
+}

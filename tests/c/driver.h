@@ -1,0 +1,49 @@
+/* The device that a test has at hand, and the command sequences of document 01 on it. */
+#ifndef DRIVER_H
+#define DRIVER_H
+
+#include "check.h"
+#include "k5l2931cam.h"
+
+/* Words of the record, and some of their values, by the header's table. */
+enum { CLOCK = 1, COMMAND = 3, OPERATION = 5, LIST = 6, HAND = 11, LEFT = 12, DYBS = 18, PPBS = 23, LOCK = 28 };
+enum { GROUND = 0, AFTER_A0 = 3, IDENTITY = 11, NO_OPERATION = 0, SUSPENDED_ERASE = 5, CHIP_ERASE = 7 };
+
+static const uint64_t CLOCK_LIMIT = 100000000000000;
+
+extern uint64_t part, record[K5L_RECORD_WORDS];
+extern uint16_t *cells;
+extern size_t length;
+
+/* A fresh device of that part, its cells all FFFFH; a test without memory ends. */
+void take_part(uint64_t which);
+
+/* The same device as new. */
+void fresh(void);
+
+/* The four events. */
+uint64_t bus_read(uint64_t address);
+uint64_t bus_write(uint64_t address, uint16_t word);
+uint64_t pass(uint64_t microseconds);
+uint64_t cut(const uint16_t *debris, size_t debris_length);
+
+/* Whole commands: every write but the last is checked to be taken, and the answer is the last one's. */
+uint64_t enter(uint16_t third);
+uint64_t program(uint64_t address, uint16_t word);
+uint64_t erase(uint64_t address, uint16_t last);
+uint64_t set_dyb(uint64_t address, uint16_t value);
+uint64_t set_ppb(uint64_t address);
+
+uint64_t clock_now(void);
+uint64_t charge_now(void);
+uint64_t exposed_block(void);
+uint64_t exposed_word(void);
+bool reads_cells(uint64_t bank);
+
+/* Has anything changed in record or cells since the last save? */
+void save(void);
+bool is_saved(void);
+
+#define CHANGES_NOTHING(event, refusal) (save(), SAME(event, refusal), HOLDS(is_saved()))
+
+#endif

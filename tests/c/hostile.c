@@ -1,0 +1,247 @@
+/*
+ * Whatever is lent is answered, and as the model says: wrong lengths, parts that do not exist, random bits for a record, and
+ * sound records with a word altered. STATE must leave the record bit for bit and the cells as they were.
+ */
+#include "check.h"
+#include "dice.h"
+#include "pair.h"
+
+#include <stdlib.h>
+#include <string.h>
+
+static uint16_t debris[32768 + 2];
+
+static uint16_t some_word(uint64_t address) { return (uint16_t)(address * 40503 + 0x1234); }
+
+/* An event of the kind, with numbers that matter somewhere. */
+static struct event some_event(enum event_kind kind)
+{
+    static const uint64_t addresses[] = { 0, 2, 8, 64, 100, 0x2AA, 0x555, 640, 2047, 2048, 3001, 16383, 16384, UINT64_MAX };
+    static const uint64_t waits[] = { 0, 1, 5, 6, 7, 49, 50, 51, 499999, 500000, 699999, 700000, 700050, 1400000,
+                                      4294967296, 100000000000000, 100000000000001, UINT64_MAX };
+    static const uint16_t words[] = { 0xAA, 0x55, 0xA0, 0x80, 0x10, 0x30, 0x90, 0x58, 0x48, 0x78, 0x60, 0x68, 0x40, 0xB0, 0xF0,
+                                      0, 1, 2, 0x1234, 0xFFFF };
+    static const size_t lengths[] = { 0, 1, 7, 8, 9, 63, 64, 65, 4096, 4097, 32768, 32769, 32770 };
+    struct event event = { .kind = kind, .debris = debris };
+
+    event.number = kind == EVENT_WAIT ? ONE_OF(waits) : once_in(3) ? below(K5L_FULL_WORDS) : ONE_OF(addresses);
+    event.word = ONE_OF(words);
+    event.debris_length = ONE_OF(lengths);
+    return event;
+}
+
+/* All questions and all four events, each on the image as it is. */
+static void put_all(struct pair *pair)
+{
+    uint64_t image[PAIR_IMAGE_WORDS];
+
+    memcpy(image, pair->image, sizeof image);
+    pair_questions(pair);
+    for (enum event_kind kind = EVENT_READ; kind <= EVENT_CUT; kind++) {
+        struct event event = some_event(kind);
+
+        pair_event(pair, &event);
+        memcpy(pair->image, image, sizeof image);
+    }
+}
+
+/* A record of that operation and command, sound or not: the model will tell. */
+static struct model_record some_record(uint64_t part, enum model_operation operation, enum model_command command)
+{
+    static const uint64_t times[] = { 1, 2, 5, 6, 49, 50, 499999, 500000, 699999, 700000 };
+    static const uint64_t blocks[] = { 0, 20, 40, 110, 140, 210, 232, 258 }; /* two of each bank, with room above */
+    struct model_record record = model_fresh();
+    uint64_t lowest = ONE_OF(blocks) + below(3);
+
+    record.clock = once_in(4) ? 100000000000000 - below(3) : 1000000;
+    record.charge = once_in(4) ? 17000 * record.clock : 15 * record.clock;
+    record.command = command;
+    record.operation = operation;
+    record.block = below(MODEL_BLOCKS);
+    record.bank = below(MODEL_BANKS);
+    record.erase.hand = lowest;
+    record.erase.left = ONE_OF(times);
+    record.erase.dq6 = once_in(2);
+    record.erase.dq2 = once_in(2);
+    model_put(&record.erase.list, lowest, true);
+    model_put(&record.erase.list, lowest + 2 + below(8), true);
+    if (once_in(2))
+        record.erase.hand = model_next(&record.erase.list, lowest + 1);
+    record.program.at = below(model_words(part));
+    record.program.left = 1 + below(6);
+    record.program.word = (uint16_t)dice();
+    record.program.dq6 = once_in(2);
+    if (once_in(2))
+        model_put(&record.dyb, below(MODEL_BLOCKS), true);
+    if (once_in(2))
+        model_put(&record.ppb, below(MODEL_BLOCKS), true);
+    record.lock = once_in(2);
+    return record;
+}
+
+/* The image of a sound record, if one comes up soon. */
+static bool sound_image(struct pair *pair, enum model_operation operation, enum model_command command)
+{
+    for (int tries = 0; tries < 200; tries++) {
+        struct model_record record = some_record(pair->part, operation, command);
+
+        if (model_sound(pair->part, &record)) {
+            image_encode(&record, pair->image);
+            return true;
+        }
+    }
+    return false;
+}
+
+/* Each word of the image in turn with many values. */
+static void altered_words(struct pair *pair, unsigned every)
+{
+    static const uint64_t values[] = { 0, 1, 2, 3, 4, 6, 7, 8, 11, 12, 13, 49, 50, 51, 269, 270, 16383, 16384, 0xFFFF, 0x10000,
+                                       499999, 500000, 500001, 699999, 700000, 700001, 8388607, 8388608, 100000000000000,
+                                       100000000000001, (uint64_t)1 << 63, UINT64_MAX };
+    enum { VALUES = sizeof values / sizeof *values };
+
+    for (int word = 0; word < K5L_RECORD_WORDS; word++) {
+        uint64_t kept = pair->image[word];
+
+        for (unsigned i = (unsigned)below(every); i < VALUES + 64 + 4; i += every) {
+            pair->image[word] = i < VALUES ? values[i]
+                : i < VALUES + 64          ? kept ^ (uint64_t)1 << (i - VALUES)
+                                           : kept + i - VALUES - 66;
+            put_all(pair);
+        }
+        pair->image[word] = kept;
+    }
+}
+
+/* Sound records of every command in every operation that allows it, and what comes of altering them. */
+static void altered_images(struct pair *pair, unsigned every)
+{
+    unsigned met = 0;
+
+    for (int operation = MODEL_IDLE; operation <= MODEL_CHIP_ERASE; operation++)
+        for (int command = MODEL_GROUND; command <= MODEL_PROTECTION; command++)
+            if (sound_image(pair, (enum model_operation)operation, (enum model_command)command)) {
+                met++;
+                put_all(pair);
+                altered_words(pair, every);
+            }
+    SAME(met, 13 + 5 + 6 + 5); /* idle, suspended program, suspended erase, and the five that run */
+}
+
+/* Often 0, else of any size. */
+static uint64_t some_number(void)
+{
+    uint64_t size = below(64);
+
+    return once_in(2) ? 0 : dice() >> size;
+}
+
+/* Random bits: in every word; narrow ones under the right layout; and in a few words of a sound record. */
+static void random_images(struct pair *pair, int count)
+{
+    for (int i = 0; i < count; i++) {
+        uint64_t operation = below(MODEL_CHIP_ERASE + 1), command = once_in(2) ? MODEL_GROUND : below(MODEL_PROTECTION + 1);
+
+        for (int word = 0; word < K5L_RECORD_WORDS; word++)
+            pair->image[word] = dice();
+        put_all(pair);
+        pair->image[0] = K5L_LAYOUT;
+        put_all(pair);
+        for (int word = 1; word < K5L_RECORD_WORDS; word++)
+            pair->image[word] = some_number();
+        put_all(pair);
+        if (!sound_image(pair, (enum model_operation)operation, (enum model_command)command))
+            continue;
+        for (uint64_t words = 1 + below(3); words > 0; words--) {
+            uint64_t word = below(K5L_RECORD_WORDS);
+
+            pair->image[word] = once_in(2) ? below(16) : dice();
+        }
+        put_all(pair);
+    }
+}
+
+/* Lengths that are not the record's, not the part's; and numbers that are no part's. */
+static void wrong_lengths(struct pair *pair, uint64_t part)
+{
+    static const size_t words[] = { 0, 1, 28, 30 };
+    static const uint64_t parts[] = { 2, 3, 4294967296, 4294967297, (uint64_t)1 << 63, UINT64_MAX };
+    size_t right = model_words(part), other = model_words(part == K5L_SMALL), lengths[] = { 0, 1, right - 1, right + 1, other };
+
+    for (int operation = MODEL_IDLE; operation <= MODEL_CHIP_ERASE; operation++) {
+        pair->part = part;
+        pair->length = right;
+        HOLDS(sound_image(pair, (enum model_operation)operation, MODEL_GROUND));
+        put_all(pair);
+        for (unsigned i = 0; i < sizeof words / sizeof *words; i++) {
+            pair->words = words[i];
+            put_all(pair);
+        }
+        pair->words = K5L_RECORD_WORDS;
+        for (unsigned i = 0; i < sizeof lengths / sizeof *lengths; i++) {
+            pair->length = lengths[i];
+            put_all(pair);
+        }
+        pair->length = right;
+        for (unsigned i = 0; i < sizeof parts / sizeof *parts; i++) {
+            pair->part = parts[i];
+            put_all(pair);
+        }
+    }
+}
+
+/* k5l_fresh takes one length only. */
+static void wrong_fresh(void)
+{
+    static const size_t words[] = { 0, 1, 28, 30 };
+    uint64_t image[PAIR_IMAGE_WORDS], before[PAIR_IMAGE_WORDS];
+
+    memset(image, 0xA5, sizeof image);
+    memset(before, 0xA5, sizeof before);
+    for (unsigned i = 0; i < sizeof words / sizeof *words; i++) {
+        SAME(k5l_fresh(image, words[i]), K5L_STATE);
+        SAME(memcmp(image, before, sizeof image), 0);
+    }
+}
+
+/* Of a length 0 nothing is looked at, so that a null pointer will do. */
+static void nothing_lent(struct pair *pair)
+{
+    uint64_t *none = NULL;
+
+    SAME(k5l_fresh(none, 0), K5L_STATE);
+    HOLDS(!k5l_sound(K5L_SMALL, none, 0));
+    SAME(k5l_clock(K5L_SMALL, none, 0), K5L_NONE);
+    SAME(k5l_read(K5L_SMALL, none, 0, pair->cells, pair->length, 0), (uint64_t)K5L_STATE << 16);
+    SAME(k5l_wait(K5L_SMALL, none, 0, NULL, 0, 1), K5L_STATE);
+    SAME(k5l_fresh(pair->image, K5L_RECORD_WORDS), K5L_DONE);
+    SAME(k5l_read(K5L_SMALL, pair->image, K5L_RECORD_WORDS, NULL, 0, 0), (uint64_t)K5L_CELLS << 16);
+    SAME(k5l_write(K5L_SMALL, pair->image, K5L_RECORD_WORDS, NULL, 0, 0, 0), K5L_CELLS);
+    SAME(k5l_wait(K5L_SMALL, pair->image, K5L_RECORD_WORDS, NULL, 0, 1), K5L_CELLS);
+    SAME(k5l_cut(K5L_SMALL, pair->image, K5L_RECORD_WORDS, NULL, 0, NULL, 0), K5L_CELLS);
+}
+
+int main(void)
+{
+    struct pair small = pair_make(K5L_SMALL), full = pair_make(K5L_FULL);
+
+    for (size_t i = 0; i < sizeof debris / sizeof *debris; i++)
+        debris[i] = (uint16_t)dice();
+    pair_fill(&small, some_word);
+    pair_fill(&full, some_word);
+    wrong_fresh();
+    nothing_lent(&small);
+    for (int round = 0; round < 4; round++)
+        altered_images(&small, 1);
+    random_images(&small, 5000);
+    altered_images(&full, 31);
+    random_images(&full, 200);
+    wrong_lengths(&full, K5L_SMALL);
+    wrong_lengths(&full, K5L_FULL);
+    pair_cells(&small);
+    pair_cells(&full);
+    pair_free(&small);
+    pair_free(&full);
+    return check_report("hostile");
+}

@@ -1,0 +1,156 @@
+/* See pair.h. */
+#include "pair.h"
+
+#include "check.h"
+
+#include <inttypes.h>
+#include <stdio.h>
+#include <stdlib.h>
+#include <string.h>
+
+static uint16_t *room_for(size_t words)
+{
+    uint16_t *room = calloc(words, sizeof *room);
+
+    if (room == NULL) {
+        fprintf(stderr, "no memory for %zu cells\n", words);
+        exit(2);
+    }
+    return room;
+}
+
+struct pair pair_make(uint64_t part)
+{
+    struct pair pair = { .part = part, .words = K5L_RECORD_WORDS, .length = model_words(part) };
+
+    pair.room = pair.length + 2 * PAIR_GUARD;
+    pair.cells = room_for(pair.room) + PAIR_GUARD;
+    pair.model_cells = room_for(pair.room) + PAIR_GUARD;
+    SAME(k5l_fresh(pair.image, pair.words), K5L_DONE);
+    return pair;
+}
+
+void pair_free(struct pair *pair)
+{
+    free(pair->cells - PAIR_GUARD);
+    free(pair->model_cells - PAIR_GUARD);
+}
+
+void pair_fill(struct pair *pair, uint16_t (*word_at)(uint64_t address))
+{
+    for (uint64_t address = 0; address < pair->length; address++)
+        pair->cells[address] = pair->model_cells[address] = word_at(address);
+}
+
+static uint64_t of_library(struct pair *p, const struct event *event)
+{
+    switch (event->kind) {
+    case EVENT_READ: return k5l_read(p->part, p->image, p->words, p->cells, p->length, event->number);
+    case EVENT_WRITE: return k5l_write(p->part, p->image, p->words, p->cells, p->length, event->number, event->word) << 16;
+    case EVENT_WAIT: return k5l_wait(p->part, p->image, p->words, p->cells, p->length, event->number) << 16;
+    default:
+        return k5l_cut(p->part, p->image, p->words, p->cells, p->length, event->debris, event->debris_length) << 16;
+    }
+}
+
+static uint64_t of_model(const struct pair *p, struct model_record *record, const struct event *event)
+{
+    struct model_answer answer;
+
+    switch (event->kind) {
+    case EVENT_READ:
+        answer = model_read(p->part, record, p->model_cells, p->length, event->number);
+        return answer.refusal << 16 | answer.word;
+    case EVENT_WRITE: return model_write(p->part, record, p->length, event->number, event->word) << 16;
+    case EVENT_WAIT: return model_wait(p->part, record, p->model_cells, p->length, event->number) << 16;
+    default: return model_cut(p->part, record, p->model_cells, p->length, event->debris, event->debris_length) << 16;
+    }
+}
+
+static void tell_record(const uint64_t *image)
+{
+    check_note("  the record:");
+    for (int i = 0; i < K5L_RECORD_WORDS; i++)
+        check_note(" %" PRIX64, image[i]);
+    check_note("\n");
+}
+
+static void tell(const struct pair *p, const uint64_t *before, const struct event *event)
+{
+    static const char *const names[] = { "read", "write", "wait", "cut" };
+
+    check_note("  after %s %" PRIu64 " (word %04X, %zu words of debris) on part %" PRIu64 ", %zu words of record, %zu cells\n",
+               names[event->kind], event->number, event->word, event->debris_length, p->part, p->words, p->length);
+    tell_record(before);
+}
+
+static bool same_images(const uint64_t *got, const uint64_t *expected)
+{
+    bool same = SAME(memcmp(got, expected, PAIR_IMAGE_WORDS * sizeof *got) != 0, 0);
+
+    for (int i = 0; i < PAIR_IMAGE_WORDS; i++)
+        if (got[i] != expected[i])
+            check_note("  word %d is %" PRIX64 "H, expected %" PRIX64 "H\n", i, got[i], expected[i]);
+    return same;
+}
+
+bool pair_cells(const struct pair *pair)
+{
+    const uint16_t *got = pair->cells - PAIR_GUARD, *expected = pair->model_cells - PAIR_GUARD;
+    bool same = SAME(memcmp(got, expected, pair->room * sizeof *got) != 0, 0);
+
+    for (size_t i = 0; !same && i < pair->room; i++)
+        if (got[i] != expected[i]) {
+            check_note("  cell %zd is %04X, expected %04X\n", (ptrdiff_t)i - PAIR_GUARD, got[i], expected[i]);
+            break;
+        }
+    return same;
+}
+
+/* Only a wait or a cut changes cells, and then an operation or a block of it has ended. */
+static bool may_have_changed_cells(const struct event *event, const uint64_t *before, const uint64_t *after)
+{
+    return event->kind >= EVENT_WAIT && (before[5] != after[5] || before[11] != after[11]);
+}
+
+uint64_t pair_event(struct pair *pair, const struct event *event)
+{
+    uint64_t before[PAIR_IMAGE_WORDS], expected[PAIR_IMAGE_WORDS], answer = (uint64_t)K5L_STATE << 16;
+    struct model_record record;
+    bool same;
+
+    memcpy(before, pair->image, sizeof before);
+    memcpy(expected, pair->image, sizeof expected);
+    if (image_decode(pair->image, pair->words, &record)) {
+        answer = of_model(pair, &record, event);
+        image_encode(&record, expected);
+    }
+    same = SAME(of_library(pair, event), answer);
+    same &= same_images(pair->image, expected);
+    if ((event->kind >= EVENT_WAIT && pair->room < K5L_FULL_WORDS) || may_have_changed_cells(event, before, expected))
+        same &= pair_cells(pair);
+    if (!same) {
+        tell(pair, before, event);
+        memcpy(pair->image, expected, sizeof expected);
+        memcpy(pair->cells - PAIR_GUARD, pair->model_cells - PAIR_GUARD, pair->room * sizeof *pair->cells);
+    }
+    return answer;
+}
+
+void pair_questions(const struct pair *p)
+{
+    struct model_record r = model_fresh();
+    bool sound = image_decode(p->image, p->words, &r) && model_sound(p->part, &r), same;
+
+    same = SAME(k5l_sound(p->part, p->image, p->words), sound);
+    same &= SAME(k5l_clock(p->part, p->image, p->words), sound ? r.clock : K5L_NONE);
+    same &= SAME(k5l_charge(p->part, p->image, p->words), sound ? r.charge : K5L_NONE);
+    same &= SAME(k5l_exposed_block(p->part, p->image, p->words), sound ? model_exposed_block(p->part, &r) : K5L_NONE);
+    same &= SAME(k5l_exposed_word(p->part, p->image, p->words), sound ? model_exposed_word(p->part, &r) : K5L_NONE);
+    for (uint64_t bank = 0; bank <= MODEL_BANKS; bank++)
+        same &= SAME(k5l_reads_cells(p->part, p->image, p->words, bank), sound && model_reads_cells(p->part, &r, bank));
+    if (!same) {
+        check_note("  asked of part %" PRIu64 ", %zu words of record\n", p->part, p->words);
+        tell_record(p->image);
+    }
+}

@@ -1,0 +1,46 @@
+/*
+ * A device twice: the library's and, over cells of its own, the model's. An event is put to both, and what they answer and
+ * leave behind is compared: answer, image, cells, and every question that the header has about a record.
+ */
+#ifndef PAIR_H
+#define PAIR_H
+
+#include "image.h"
+
+enum event_kind { EVENT_READ, EVENT_WRITE, EVENT_WAIT, EVENT_CUT };
+
+struct event {
+    enum event_kind kind;
+    uint64_t number; /* the address, or the microseconds */
+    uint16_t word;
+    const uint16_t *debris;
+    size_t debris_length;
+};
+
+/* Around image and cells lie words that are compared, too: nothing may write there. `words` and `length` are what is lent. */
+enum { PAIR_IMAGE_WORDS = 32, PAIR_GUARD = 64 };
+
+struct pair {
+    uint64_t part;
+    size_t words, length, room;
+    uint64_t image[PAIR_IMAGE_WORDS];
+    uint16_t *cells, *model_cells;
+};
+
+/* A fresh device of the part; a test without memory ends. */
+struct pair pair_make(uint64_t part);
+void pair_free(struct pair *pair);
+
+/* The same cells in both, by a function of the address. */
+void pair_fill(struct pair *pair, uint16_t (*word_at)(uint64_t address));
+
+/* Puts the event to both and compares; the answer is the model's, the refusal above the word. */
+uint64_t pair_event(struct pair *pair, const struct event *event);
+
+/* Puts every question about the record to both and compares. */
+void pair_questions(const struct pair *pair);
+
+/* Compares all the cells. */
+bool pair_cells(const struct pair *pair);
+
+#endif
