@@ -363,7 +363,8 @@ uint64_t model_exposed_word(uint64_t part, const struct model_record *record)
 
 bool model_reads_cells(uint64_t part, const struct model_record *record, uint64_t bank)
 {
-    return bank < MODEL_BANKS && model_sound(part, record) && !program_shows(part, record, bank) && !erase_shows(record, bank)
+    return bank < MODEL_BANKS && model_sound(part, record)
+        && !program_shows(part, record, bank) && !erase_shows(record, bank)
         && record->command != MODEL_PROTECTION && !(record->command == MODEL_IDENTITY && record->bank == bank)
         && !(model_erase_is_suspended(record) && model_bank(record->erase.hand) == bank)
         && !(record->operation == MODEL_SUSPENDED_PROGRAM && model_bank(model_block(part, record->program.at)) == bank);

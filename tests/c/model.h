@@ -99,8 +99,7 @@ uint64_t model_cut(uint64_t part, struct model_record *record, uint16_t *cells, 
 uint64_t model_exposed_block(uint64_t part, const struct model_record *record);
 uint64_t model_exposed_word(uint64_t part, const struct model_record *record);
 
-/* Is every read in the bank an array read? Of a number that is no bank's the same rules are asked: a chip erase and 58H reading
- * are in every bank, all else is in a bank of its own. */
+/* Is every read in the bank an array read? Of a number that is no bank's: no. */
 bool model_reads_cells(uint64_t part, const struct model_record *record, uint64_t bank);
 
 /* Document 01, The die and its small twin: the small part divides every size and first word by 512. */

@@ -36,7 +36,8 @@ pub extern "C" fn k5l_read(part: u64, words: &mut [u64], cells: &[u16], address:
     let device = image::device_of(words);
     let answer = machine::read(parts::part_named(part), device, cells, address);
     let after = answer.device;
-    image::put(words, after);
+    let operation = after.operation;
+    image::put_operation(words, operation);
     let refusal = answer.refusal;
     parts::packed(refusal, answer.word)
 }
@@ -86,7 +87,10 @@ pub extern "C" fn k5l_wait(
     let device = image::device_of(words);
     let answer = machine::wait(parts::part_named(part), device, cells, microseconds);
     let after = answer.device;
-    image::put(words, after);
+    let meter = after.meter;
+    let operation = after.operation;
+    image::put_meter(words, meter);
+    image::put_operation(words, operation);
     let refusal = answer.refusal;
     machine::number_of(refusal)
 }

@@ -41,3 +41,12 @@ module _ (i : List ℕ) (well : wellFormed i ≡ true) where
   pub stored-command : (c : Command) → withCommand i c ≡ imageOf (device (deviceOf i .meter) c (deviceOf i .operation) (deviceOf i .bits))
   unfolding imageOf withCommand
   stored-command c = subst (λ (z : List ℕ). withCommand z c ≡ imageOf (device (deviceOf i .meter) c (deviceOf i .operation) (deviceOf i .bits))) (canonical i well) refl
+
+  -- what a read may change, and what a wait may
+  pub stored-operation : (o : Operation) → withOperation i o ≡ imageOf (device (deviceOf i .meter) (deviceOf i .command) o (deviceOf i .bits))
+  unfolding imageOf withOperation
+  stored-operation o = subst (λ (z : List ℕ). withOperation z o ≡ imageOf (device (deviceOf i .meter) (deviceOf i .command) o (deviceOf i .bits))) (canonical i well) refl
+
+  pub stored-passed : (m : Meter) (o : Operation) → withOperation (withMeter i m) o ≡ imageOf (device m (deviceOf i .command) o (deviceOf i .bits))
+  unfolding imageOf withMeter withOperation
+  stored-passed m o = subst (λ (z : List ℕ). withOperation (withMeter z m) o ≡ imageOf (device m (deviceOf i .command) o (deviceOf i .bits))) (canonical i well) refl
