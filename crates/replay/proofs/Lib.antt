@@ -1,0 +1,5 @@
+pub mod Blocks
+pub mod Digits
+pub mod Runs
+pub mod Numbers
+pub mod Plays

@@ -1,0 +1,5 @@
+pub mod Sums
+pub mod Digits
+pub mod Acts
+pub mod Runs
+pub mod Plays

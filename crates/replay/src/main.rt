@@ -1,0 +1,33 @@
+// Replays an event script from standard input on the small part, and writes the answers to standard output.
+mod answers;
+mod events;
+mod exceptions;
+mod lines;
+mod refusals;
+mod sums;
+mod text;
+
+// Nothing says that the input ends, and a proved loop has to: its turns are more than any run takes.
+fn main() {
+    let mut memory = [0xffffu16; 16384];
+    let cells: &mut [u16] = &mut memory;
+    let mut room = [0u16; 16384];
+    let words: &mut [u16] = &mut room;
+    let mut input = io::large_buffer();
+    let mut replay = lines::fresh();
+    let mut turns = u64::MAX;
+    while 0 < turns {
+        let got = libc::read(libc::STDIN_FILENO, &mut input);
+        if got < 0 {
+            answers::unread();
+            return;
+        }
+        if got == 0 {
+            lines::finished(replay, cells, words);
+            return;
+        }
+        let count = io::count(got, &input);
+        replay = lines::replayed(replay, &input[..count], cells, words);
+        turns -= 1;
+    }
+}

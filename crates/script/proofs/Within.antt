@@ -1,0 +1,48 @@
+-- An order has no more words than are lent, and sets no cell past the part.
+use Prim.Native.Nat.{ℕ, _+_}
+use mathlib.Core.Bool.{Bool, true, false, _&&_}
+use mathlib.Core.Path.{_≡_, refl}
+use native.Mathlib.Omega.{arith}
+use lib.Dec.{leb, ltb}
+use borrow.Author.Tests.{leb-true, ltb-false}
+use Rattle.script.specs.declared.forms.Order.{Order}
+use Rattle.script.specs.declared.forms.Form.{Form}
+use Rattle.script.specs.Choice.{if_then_else_}
+use Rattle.script.specs.declared.Line.{Line}
+use Rattle.script.specs.Lines.{endedOrder}
+use Rattle.script.specs.Forms.{Within, orderOf, cutOf, cellOf}
+
+cut-within : (count room : ℕ) → Within (cutOf count room) room
+unfolding cutOf
+cut-within count room = by (ltb room count) refl
+  where
+    by : (b : Bool) → ltb room count ≡ b → Within (if b then Order.Cut room else Order.Cut count) room
+    by true e = omega arith
+    by false e = ltb-false room count e
+
+cell-within : (address count room : ℕ) → Within (cellOf address count room) room
+unfolding cellOf
+cell-within address count room = by (leb count room) (leb (address + count) 16384) refl refl
+  where
+    by : (b d : Bool) → leb count room ≡ b → leb (address + count) 16384 ≡ d → Within (if b && d then Order.Cell address count else Order.Malformed) room
+    by true true e f = (leb-true (address + count) 16384 f, leb-true count room e)
+    by true false e f = tt
+    by false d e f = tt
+
+pub order-within : (form : Form) (room : ℕ) → Within (orderOf form room) room
+unfolding orderOf
+order-within Form.Empty room = tt
+order-within Form.Remark room = tt
+order-within (Form.Named verb) room = tt
+order-within (Form.Reads address) room = tt
+order-within (Form.Addresses address) room = tt
+order-within (Form.Writes address word) room = tt
+order-within (Form.Waits microseconds) room = tt
+order-within (Form.Cuts count) room = cut-within count room
+order-within (Form.Sets address count) room = cell-within address count room
+order-within Form.Freshens room = tt
+order-within Form.Wrong room = tt
+
+pub ended-within : (l : Line) (room : ℕ) → Within (endedOrder l room) room
+unfolding endedOrder
+ended-within l room = order-within _ room
