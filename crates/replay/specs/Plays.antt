@@ -37,6 +37,6 @@ playsFrom line (b ∷ bytes) s = goesOn (eqb b 10) line b (λ next. playsFrom ne
 abbrev pub plays : (bytes : List ℕ) → State → State
 plays bytes s = playsFrom meaning bytes s
 
--- what a run leaves when its input ends
+-- what a run leaves when its input ends, which ends a last line as an LF does
 abbrev pub left : Run → State
 left s = state (ended s .replay .device) (ended s .cells)

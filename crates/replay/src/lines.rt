@@ -2,7 +2,6 @@
 ghost use mathlib.Core.Path.{_≡_};
 ghost use lib.ListN.{length};
 ghost use Rattle.replay.specs.Runs.{begun, run, runOver};
-use crate::answers;
 use crate::events;
 use plain::Device;
 use script::Line;
@@ -28,9 +27,7 @@ pub fn fresh() -> Replay
 // Replays the next part of the input: "lines end with LF".
 pub fn replayed(replay: Replay, input: &[u8], cells: &mut [u16], words: &mut [u16]) -> Replay
     requires { ⌜ length (now cells) ≡ 16384 ⌝ }
-    ensures { λ r. ⌜ r ≡ runOver (run replay (now (cells .entry)) (now (words .entry))) (now (input .entry)) .replay ⌝ }
-    ensures { λ r. ⌜ now (cells .exit) ≡ runOver (run replay (now (cells .entry)) (now (words .entry))) (now (input .entry)) .cells ⌝ }
-    ensures { λ r. ⌜ now (words .exit) ≡ runOver (run replay (now (cells .entry)) (now (words .entry))) (now (input .entry)) .words ⌝ }
+    ensures { λ r. ⌜ run r (now (cells .exit)) (now (words .exit)) ≡ runOver (run replay (now (cells .entry)) (now (words .entry))) (now (input .entry)) ⌝ }
 {
     let mut device = replay.device;
     let mut line = replay.line;
@@ -54,16 +51,4 @@ pub fn replayed(replay: Replay, input: &[u8], cells: &mut [u16], words: &mut [u1
         line: line,
         number: number,
     }
-}
-
-// The end of the input, which ends a last line that has no LF.
-pub fn finished(replay: Replay, cells: &mut [u16], words: &mut [u16])
-    requires { ⌜ length (now cells) ≡ 16384 ⌝ }
-{
-    let device = replay.device;
-    let line = replay.line;
-    let order = script::ended(line, words);
-    let last = events::act(device, order, replay.number, cells, words);
-    let meter = last.meter;
-    answers::end(meter.clock, meter.charge, cells);
 }

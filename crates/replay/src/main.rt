@@ -23,7 +23,11 @@ fn main() {
             return;
         }
         if got == 0 {
-            lines::finished(replay, cells, words);
+            // The end of the input ends a last line as an LF does.
+            let last = lines::replayed(replay, b"\n", cells, words);
+            let device = last.device;
+            let meter = device.meter;
+            answers::end(meter.clock, meter.charge, cells);
             return;
         }
         let count = io::count(got, &input);

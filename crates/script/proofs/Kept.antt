@@ -64,8 +64,3 @@ module _ (room : ℕ) where
       let none : room - count ≡ 0 = omega arith in
       rw (size, lt-leb (count + times) room (omega arith), none, append-nil, take-all count words (omega arith))
       (more (omega (arith, longer all words count times word)) refl (ends ∙ sym (take-append-le room all (replicate times word) (omega arith))) size)
-
-  -- the words that are told of them
-  pub kept-size : (all words : List ℕ) (count : ℕ) → Kept all count words → length words ≡ room
-  kept-size all words count (whole same below begins size) = size
-  kept-size all words count (more over is ends size) = size

@@ -127,7 +127,7 @@ writeLine (a ∷ []) = malformed
 writeLine (a ∷ w ∷ []) = asked (λ address. asked (write address) (word w)) (figure a)
 writeLine (a ∷ w ∷ x ∷ items) = malformed
 
--- `cut W..`: a part has no more than 16384 cells, and further debris is none
+-- `cut W..`: no part of the die has more than 16384 words of debris to take, and what is over is ignored
 abbrev pub cutOf : Listed → Meaning
 cutOf wrong = malformed
 cutOf (these debris) = cut (take 16384 debris)
