@@ -1,7 +1,7 @@
 -- What the face answers on a sound record; on a device at rest, with the words as they are but for the meter.
 use Prim.Native.Nat.{ℕ, _+_, _*_, _<_, _≤_}
-use mathlib.Core.Path.{_≡_, refl, sym, ap, _∙_}
-use mathlib.Core.Bool.{Bool, true, false, _&&_}
+use mathlib.Core.Path.{_≡_, sym, ap, _∙_}
+use mathlib.Core.Bool.{true, false}
 use mathlib.Core.List.{List}
 use lib.ListN.{length, getD}
 use Rattle.geometry.specs.Parts.{wordCount}
@@ -11,19 +11,18 @@ use Rattle.plain.specs.declared.Command.the-variants.{Ground, Unlock}
 use Rattle.plain.specs.declared.Device.{Device}
 use Rattle.plain.specs.Commands.{written, entered, effected, atGround, isSuspended}
 use Rattle.plain.specs.Cycles.{is, firstUnlock}
-use Rattle.plain.specs.Figures.{clockLimit}
 use Rattle.plain.specs.Record.{device}
 use Rattle.plain.specs.Refusals.{number}
 use Rattle.plain.specs.Sound.{sound}
 use Rattle.plain.specs.Status.{look, polls, readingOn, rests}
-use Rattle.plain.specs.Machine.{Outcome, outcome, readEvent, waitEvent, waited}
-use Rattle.plain.specs.Time.{moment, ticks}
-use Rattle.plain.proofs.Tools.{by-cases, both-left, both-right, clash}
+use Rattle.plain.specs.Machine.{outcome, waitEvent, waited}
+use Rattle.plain.specs.Time.{moment}
+use Rattle.plain.proofs.Tools.{by-cases, both-left, both-right}
 use Rattle.plain.proofs.Facts.{sound-clock, sound-charge}
 use Rattle.plain.proofs.Ticks.{still}
 use Rattle.plain.proofs.Running.{idle-still}
 use Rattle.machine.proofs.Events as events
-use Rattle.image.specs.Image.{imageOf, word, wellFormed, atRest, meterOf, bitsOf, deviceOf}
+use Rattle.image.specs.Image.{imageOf, word, atRest, meterOf, bitsOf, deviceOf}
 use Rattle.image.specs.Stored.{withMeter, withCommand}
 use Rattle.image.proofs.Canonical.{canonical}
 use Rattle.image.proofs.Rest.{rest-device}

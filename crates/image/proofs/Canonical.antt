@@ -1,17 +1,16 @@
 -- Well-formed words are the image of the record that they stand for: no other words stand for it.
-use Prim.Native.Nat.{ℕ, zero, suc, _+_, _*_, _/_, _%_, _<_}
-use mathlib.Core.Path.{_≡_, refl, sym, ap, ap₂, _∙_}
-use mathlib.Core.Bool.{Bool, true, false, _&&_, _||_}
+use Prim.Native.Nat.{ℕ, zero, suc, _+_, _<_}
+use mathlib.Core.Path.{_≡_, refl, sym, _∙_}
+use mathlib.Core.Bool.{true, false, _&&_, _||_}
 use mathlib.Core.List.{List, [], _∷_, _++_}
 use native.Mathlib.Nat.{mod-eq-of-lt}
 use native.Mathlib.Omega.{arith}
 use lib.Dec.{eqb, ltb, leb}
-use lib.ListN.{length, getD}
+use lib.ListN.{length}
 use borrow.Author.Tests.{eqb-true, ltb-true}
 use Rattle.plain.specs.declared.Operation.{Operation}
-use Rattle.plain.specs.declared.Device.{Device}
 use Rattle.plain.proofs.Tools.{by-cases, both-left, both-right, clash}
-use Rattle.image.specs.Image.{recordWords, flag, commandNumber, commandPlace, operationNumber, insideNumber, eraseIn, programIn, programInside, noErase, noProgram, eraseWords, programWords, bitsWords, imageOf, word, zeros, commandFits, eraseFits, programs, programFits, wellFormed, commandOf, operationOf, eraseOf, programOf, bitsOf, deviceOf}
+use Rattle.image.specs.Image.{recordWords, flag, commandNumber, commandPlace, operationNumber, insideNumber, eraseIn, programIn, programInside, noErase, noProgram, eraseWords, programWords, imageOf, word, zeros, commandFits, eraseFits, programs, programFits, wellFormed, commandOf, operationOf, eraseOf, programOf, deviceOf}
 use Rattle.image.proofs.Words.{zeros-are, flag-back, toggles-back, tabulate, tabulated}
 
 -- ---- words 3 and 4

@@ -5,12 +5,11 @@ use mathlib.Core.Bool.{true}
 use mathlib.Core.List.{List}
 use lib.ListN.{length, length-set}
 use Rattle.meter.specs.declared.Meter.{Meter}
-use Rattle.protection.specs.declared.Protection.{Protection}
 use Rattle.plain.specs.declared.Operation.{Operation}
 use Rattle.plain.specs.declared.Command.{Command}
 use Rattle.plain.specs.declared.Device.{Device}
 use Rattle.plain.specs.Record.{device}
-use Rattle.image.specs.Image.{recordWords, imageOf, wellFormed, deviceOf}
+use Rattle.image.specs.Image.{imageOf, wellFormed, deviceOf}
 use Rattle.image.specs.Stored.{withMeter, withCommand, withOperation, withBits}
 use Rattle.image.proofs.Canonical.{canonical}
 

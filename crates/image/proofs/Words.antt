@@ -1,13 +1,13 @@
 -- Lists of words: all zero, one OR of them; and a list as what it holds, place by place.
 use Prim.Native.Nat.{ℕ, zero, suc, _+_, _*_, _/_, _%_}
-use mathlib.Core.Path.{_≡_, refl, sym, ap, ap₂, _∙_}
+use mathlib.Core.Path.{_≡_, refl, ap, ap₂, _∙_}
 use mathlib.Core.Bool.{Bool, true, false, _&&_}
 use mathlib.Core.List.{List, [], _∷_}
 use native.Mathlib.Omega.{arith}
 use lib.Bits.{bitOr, or-add-and, and-le-l, and-le-r}
 use lib.Dec.{eqb, ltb}
-use lib.ListN.{length, getD, replicate}
-use borrow.Author.Tests.{eqb-true, eq-eqb, ltb-true}
+use lib.ListN.{length, replicate}
+use borrow.Author.Tests.{eqb-true, ltb-true}
 use Rattle.plain.proofs.Tools.{by-cases, both-left, both-right}
 use Rattle.image.specs.Image.{flag, word, zeros}
 

@@ -122,7 +122,7 @@ pub fn put_operation(words: &mut [u64], operation: Operation)
     words[17] = toggle;
 }
 
-pub fn put_bits(words: &mut [u64], bits: Protection)
+fn put_bits(words: &mut [u64], bits: Protection)
     requires { ⌜ length (now words) ≡ recordWords ⌝ }
     ensures { λ _. ⌜ now (words .exit) ≡ withBits (now (words .entry)) bits ⌝ }
 {

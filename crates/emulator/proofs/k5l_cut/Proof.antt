@@ -1,7 +1,7 @@
-use mathlib.Core.Path.{sym, ap, _∙_}
+use mathlib.Core.Path.{sym, ap}
 use Rattle.machine.proofs.Events.{is-so, unsound}
 use Rattle.emulator.proofs.Faces.{well, whole, cut-none, cut-some}
-use Rattle.emulator.specs.Face.{Faced, packed}
+use Rattle.emulator.specs.Face.{Faced}
 use Rattle.plain.specs.Refusals.{number}
 use borrow.Author.Needs.{needs}
 use Rattle.emulator.proofs.k5l_cut.Statement.{statement}

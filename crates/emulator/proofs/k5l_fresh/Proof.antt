@@ -1,4 +1,4 @@
-use borrow.Author.Tests.{not-true, not-false, eq-eqb, ne-eqb}
+use borrow.Author.Tests.{eq-eqb, ne-eqb}
 use Rattle.plain.specs.Refusals.{number}
 use borrow.Author.Needs.{needs}
 use Rattle.emulator.proofs.k5l_fresh.Statement.{statement}

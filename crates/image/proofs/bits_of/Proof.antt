@@ -1,10 +1,6 @@
 use borrow.Author.Needs.{needs}
 use Rattle.image.proofs.bits_of.Statement.{statement}
 use Rattle.image.proofs.bits_of.Tie as tie
-use Rattle.image.proofs.bits_of.Reads as reads
-use Rattle.image.proofs.bits_of.Lts as lts
-use Rattle.image.proofs.sets.dyb_of.Reads as dyb-of-reads
-use Rattle.image.proofs.sets.ppb_of.Reads as ppb-of-reads
 
 pub bits-of-spec : {M : Type 1} → statement M
 bits-of-spec =

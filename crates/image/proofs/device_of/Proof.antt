@@ -2,13 +2,6 @@ use Rattle.image.specs.Image.{deviceOf}
 use borrow.Author.Needs.{needs}
 use Rattle.image.proofs.device_of.Statement.{statement}
 use Rattle.image.proofs.device_of.Tie as tie
-use Rattle.image.proofs.device_of.Reads as reads
-use Rattle.image.proofs.device_of.Lts as lts
-use Rattle.image.proofs.bits_of.Reads as bits-of-reads
-use Rattle.image.proofs.commands.command_of.Reads as command-of-reads
-use Rattle.image.proofs.operations.erase_of.Reads as erase-of-reads
-use Rattle.image.proofs.operations.operation_of.Reads as operation-of-reads
-use Rattle.image.proofs.operations.program_of.Reads as program-of-reads
 
 pub device-of-spec : {M : Type 1} → statement M
 unfolding deviceOf

@@ -1,11 +1,8 @@
-use borrow.Author.Tests.{eq-eqb, ne-eqb}
+use borrow.Author.Tests.{ne-eqb}
 use Rattle.image.specs.Image.{wellFormed}
 use borrow.Author.Needs.{needs}
 use Rattle.image.proofs.is_well_formed.Statement.{statement}
 use Rattle.image.proofs.is_well_formed.Tie as tie
-use Rattle.image.proofs.is_well_formed.Reads as reads
-use Rattle.image.proofs.is_well_formed.Lts as lts
-use Rattle.image.proofs.forms.fit.Reads as fit-reads
 
 pub is-well-formed-spec : {M : Type 1} → statement M
 unfolding wellFormed

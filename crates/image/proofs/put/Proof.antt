@@ -3,12 +3,6 @@ use Rattle.image.proofs.Stored.{long-meter, long-command, long-operatio
 use borrow.Author.Needs.{needs}
 use Rattle.image.proofs.put.Statement.{statement}
 use Rattle.image.proofs.put.Tie as tie
-use Rattle.image.proofs.put.Reads as reads
-use Rattle.image.proofs.put.Lts as lts
-use Rattle.image.proofs.put_bits.Reads as put-bits-reads
-use Rattle.image.proofs.put_command.Reads as put-command-reads
-use Rattle.image.proofs.put_meter.Reads as put-meter-reads
-use Rattle.image.proofs.put_operation.Reads as put-operation-reads
 
 pub put-spec : {M : Type 1} → statement M
 put-spec =

@@ -4,9 +4,6 @@ use lib.ListN.{length-set}
 use borrow.Author.Needs.{needs}
 use Rattle.image.proofs.put_bits.Statement.{statement}
 use Rattle.image.proofs.put_bits.Tie as tie
-use Rattle.image.proofs.put_bits.Reads as reads
-use Rattle.image.proofs.put_bits.Lts as lts
-use Rattle.image.proofs.sets.flag.Reads as flag-reads
 
 pub put-bits-spec : {M : Type 1} → statement M
 unfolding withBits

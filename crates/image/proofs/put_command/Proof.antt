@@ -2,10 +2,6 @@ use Rattle.image.specs.Stored.{withCommand}
 use borrow.Author.Needs.{needs}
 use Rattle.image.proofs.put_command.Statement.{statement}
 use Rattle.image.proofs.put_command.Tie as tie
-use Rattle.image.proofs.put_command.Reads as reads
-use Rattle.image.proofs.put_command.Lts as lts
-use Rattle.image.proofs.commands.number_of.Reads as number-of-reads
-use Rattle.image.proofs.commands.place_of.Reads as place-of-reads
 
 pub put-command-spec : {M : Type 1} → statement M
 unfolding withCommand

@@ -2,9 +2,6 @@ use Rattle.image.proofs.Round.{fresh-words}
 use borrow.Author.Needs.{needs}
 use Rattle.image.proofs.put_fresh.Statement.{statement}
 use Rattle.image.proofs.put_fresh.Tie as tie
-use Rattle.image.proofs.put_fresh.Reads as reads
-use Rattle.image.proofs.put_fresh.Lts as lts
-use Rattle.image.proofs.clear.Reads as clear-reads
 
 pub put-fresh-spec : {M : Type 1} → statement M
 put-fresh-spec =

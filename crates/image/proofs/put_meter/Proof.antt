@@ -3,8 +3,6 @@ use Rattle.image.specs.Stored.{withMeter}
 use borrow.Author.Needs.{needs}
 use Rattle.image.proofs.put_meter.Statement.{statement}
 use Rattle.image.proofs.put_meter.Tie as tie
-use Rattle.image.proofs.put_meter.Reads as reads
-use Rattle.image.proofs.put_meter.Lts as lts
 
 pub put-meter-spec : {M : Type 1} → statement M
 unfolding withMeter

@@ -4,12 +4,6 @@ use lib.ListN.{length-set}
 use borrow.Author.Needs.{needs}
 use Rattle.image.proofs.put_operation.Statement.{statement}
 use Rattle.image.proofs.put_operation.Tie as tie
-use Rattle.image.proofs.put_operation.Reads as reads
-use Rattle.image.proofs.put_operation.Lts as lts
-use Rattle.image.proofs.operations.erase_in.Reads as erase-in-reads
-use Rattle.image.proofs.operations.number_of.Reads as number-of-reads
-use Rattle.image.proofs.operations.program_in.Reads as program-in-reads
-use Rattle.image.proofs.sets.flag.Reads as flag-reads
 
 pub put-operation-spec : {M : Type 1} → statement M
 unfolding withOperation

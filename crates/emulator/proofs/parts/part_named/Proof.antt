@@ -1,4 +1,4 @@
-use borrow.Author.Tests.{not-true, not-false, eq-eqb, ne-eqb}
+use borrow.Author.Tests.{eq-eqb, ne-eqb}
 use borrow.Author.Needs.{needs}
 use Rattle.emulator.proofs.parts.part_named.Statement.{statement}
 use Rattle.emulator.proofs.parts.part_named.Tie as tie

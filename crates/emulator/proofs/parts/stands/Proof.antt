@@ -1,5 +1,5 @@
 use Rattle.emulator.specs.Face.{stands}
-use borrow.Author.Tests.{not-true, not-false, eq-eqb, ne-eqb}
+use borrow.Author.Tests.{not-true, not-false}
 use borrow.Author.Needs.{needs}
 use Rattle.emulator.proofs.parts.stands.Statement.{statement}
 use Rattle.emulator.proofs.parts.stands.Tie as tie

@@ -2,8 +2,6 @@ use borrow.Author.Tests.{ne-eqb}
 use Rattle.image.specs.Image.{commandOf}
 use Rattle.image.proofs.commands.command_of.Statement.{statement}
 use Rattle.image.proofs.commands.command_of.Tie as tie
-use Rattle.image.proofs.commands.command_of.Reads as reads
-use Rattle.image.proofs.commands.command_of.Lts as lts
 
 pub command-of-spec : {M : Type 1} → statement M
 unfolding commandOf

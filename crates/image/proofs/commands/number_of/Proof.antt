@@ -2,8 +2,6 @@ use Rattle.image.specs.Image.{commandNumber}
 use borrow.Author.Needs.{needs}
 use Rattle.image.proofs.commands.number_of.Statement.{statement}
 use Rattle.image.proofs.commands.number_of.Tie as tie
-use Rattle.image.proofs.commands.number_of.Reads as reads
-use Rattle.image.proofs.commands.number_of.Lts as lts
 
 pub number-of-spec : {M : Type 1} → statement M
 unfolding commandNumber

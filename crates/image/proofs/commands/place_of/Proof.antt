@@ -2,8 +2,6 @@ use Rattle.image.specs.Image.{commandPlace}
 use borrow.Author.Needs.{needs}
 use Rattle.image.proofs.commands.place_of.Statement.{statement}
 use Rattle.image.proofs.commands.place_of.Tie as tie
-use Rattle.image.proofs.commands.place_of.Reads as reads
-use Rattle.image.proofs.commands.place_of.Lts as lts
 
 pub place-of-spec : {M : Type 1} → statement M
 unfolding commandPlace

@@ -2,8 +2,6 @@ use borrow.Author.Tests.{eq-eqb, le-ltb, lt-ltb, ne-eqb}
 use Rattle.image.specs.Image.{commandFits}
 use Rattle.image.proofs.forms.command_fits.Statement.{statement}
 use Rattle.image.proofs.forms.command_fits.Tie as tie
-use Rattle.image.proofs.forms.command_fits.Reads as reads
-use Rattle.image.proofs.forms.command_fits.Lts as lts
 
 pub command-fits-spec : {M : Type 1} → statement M
 unfolding commandFits

@@ -4,8 +4,6 @@ use Rattle.image.proofs.Words.{joined-zeros}
 use borrow.Author.Needs.{needs}
 use Rattle.image.proofs.forms.erase_fits.Statement.{statement}
 use Rattle.image.proofs.forms.erase_fits.Tie as tie
-use Rattle.image.proofs.forms.erase_fits.Reads as reads
-use Rattle.image.proofs.forms.erase_fits.Lts as lts
 
 pub erase-fits-spec : {M : Type 1} → statement M
 unfolding eraseFits

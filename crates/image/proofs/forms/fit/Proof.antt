@@ -3,11 +3,6 @@ use Rattle.image.specs.Image.{wellFormed}
 use borrow.Author.Needs.{needs}
 use Rattle.image.proofs.forms.fit.Statement.{statement}
 use Rattle.image.proofs.forms.fit.Tie as tie
-use Rattle.image.proofs.forms.fit.Reads as reads
-use Rattle.image.proofs.forms.fit.Lts as lts
-use Rattle.image.proofs.forms.command_fits.Reads as command-fits-reads
-use Rattle.image.proofs.forms.erase_fits.Reads as erase-fits-reads
-use Rattle.image.proofs.forms.program_fits.Reads as program-fits-reads
 
 pub fit-spec : {M : Type 1} → statement M
 unfolding wellFormed

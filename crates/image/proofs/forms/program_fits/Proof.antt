@@ -4,9 +4,6 @@ use Rattle.image.proofs.Words.{joined-zeros}
 use borrow.Author.Needs.{needs}
 use Rattle.image.proofs.forms.program_fits.Statement.{statement}
 use Rattle.image.proofs.forms.program_fits.Tie as tie
-use Rattle.image.proofs.forms.program_fits.Reads as reads
-use Rattle.image.proofs.forms.program_fits.Lts as lts
-use Rattle.image.proofs.forms.programs.Reads as programs-reads
 
 pub program-fits-spec : {M : Type 1} → statement M
 unfolding programFits

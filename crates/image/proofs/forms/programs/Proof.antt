@@ -1,8 +1,6 @@
 use borrow.Author.Tests.{eq-eqb, ne-eqb}
 use Rattle.image.proofs.forms.programs.Statement.{statement}
 use Rattle.image.proofs.forms.programs.Tie as tie
-use Rattle.image.proofs.forms.programs.Reads as reads
-use Rattle.image.proofs.forms.programs.Lts as lts
 
 pub programs-spec : {M : Type 1} → statement M
 programs-spec =

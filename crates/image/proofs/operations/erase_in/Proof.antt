@@ -2,9 +2,6 @@ use Rattle.image.specs.Image.{eraseIn}
 use borrow.Author.Needs.{needs}
 use Rattle.image.proofs.operations.erase_in.Statement.{statement}
 use Rattle.image.proofs.operations.erase_in.Tie as tie
-use Rattle.image.proofs.operations.erase_in.Reads as reads
-use Rattle.image.proofs.operations.erase_in.Lts as lts
-use Rattle.image.proofs.operations.no_erase.Reads as no-erase-reads
 
 pub erase-in-spec : {M : Type 1} → statement M
 unfolding eraseIn

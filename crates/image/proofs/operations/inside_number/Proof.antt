@@ -2,8 +2,6 @@ use Rattle.image.specs.Image.{insideNumber}
 use borrow.Author.Needs.{needs}
 use Rattle.image.proofs.operations.inside_number.Statement.{statement}
 use Rattle.image.proofs.operations.inside_number.Tie as tie
-use Rattle.image.proofs.operations.inside_number.Reads as reads
-use Rattle.image.proofs.operations.inside_number.Lts as lts
 
 pub inside-number-spec : {M : Type 1} → statement M
 unfolding insideNumber

@@ -2,9 +2,6 @@ use Rattle.image.specs.Image.{operationNumber}
 use borrow.Author.Needs.{needs}
 use Rattle.image.proofs.operations.number_of.Statement.{statement}
 use Rattle.image.proofs.operations.number_of.Tie as tie
-use Rattle.image.proofs.operations.number_of.Reads as reads
-use Rattle.image.proofs.operations.number_of.Lts as lts
-use Rattle.image.proofs.operations.inside_number.Reads as inside-number-reads
 
 pub number-of-spec : {M : Type 1} → statement M
 unfolding operationNumber

@@ -2,8 +2,6 @@ use borrow.Author.Tests.{ne-eqb}
 use Rattle.image.specs.Image.{operationOf}
 use Rattle.image.proofs.operations.operation_of.Statement.{statement}
 use Rattle.image.proofs.operations.operation_of.Tie as tie
-use Rattle.image.proofs.operations.operation_of.Reads as reads
-use Rattle.image.proofs.operations.operation_of.Lts as lts
 
 pub operation-of-spec : {M : Type 1} → statement M
 unfolding operationOf

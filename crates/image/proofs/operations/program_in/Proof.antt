@@ -2,10 +2,6 @@ use Rattle.image.specs.Image.{programIn}
 use borrow.Author.Needs.{needs}
 use Rattle.image.proofs.operations.program_in.Statement.{statement}
 use Rattle.image.proofs.operations.program_in.Tie as tie
-use Rattle.image.proofs.operations.program_in.Reads as reads
-use Rattle.image.proofs.operations.program_in.Lts as lts
-use Rattle.image.proofs.operations.no_program.Reads as no-program-reads
-use Rattle.image.proofs.operations.program_inside.Reads as program-inside-reads
 
 pub program-in-spec : {M : Type 1} → statement M
 unfolding programIn

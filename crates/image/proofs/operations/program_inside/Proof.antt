@@ -2,9 +2,6 @@ use Rattle.image.specs.Image.{programInside}
 use borrow.Author.Needs.{needs}
 use Rattle.image.proofs.operations.program_inside.Statement.{statement}
 use Rattle.image.proofs.operations.program_inside.Tie as tie
-use Rattle.image.proofs.operations.program_inside.Reads as reads
-use Rattle.image.proofs.operations.program_inside.Lts as lts
-use Rattle.image.proofs.operations.no_program.Reads as no-program-reads
 
 pub program-inside-spec : {M : Type 1} → statement M
 unfolding programInside
