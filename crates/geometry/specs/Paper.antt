@@ -33,10 +33,10 @@ divided r = row (r .first) (r .last) (r .bank) (r .words / 512) (r .word / 512)
 
 -- what a part has at a run's first block, and, of bank and size, at its last
 abbrev pub atFirst : Part → Row → Row
-atFirst p r = row (r .first) (r .last) (bankOfBlock (r .first)) (sizeOf p (r .first)) (firstOf p (r .first))
+atFirst p r = row (r .first) (r .last) (bankOfBlock p (r .first)) (sizeOf p (r .first)) (firstOf p (r .first))
 
 abbrev pub atLast : Part → Row → Row
-atLast p r = row (r .first) (r .last) (bankOfBlock (r .last)) (sizeOf p (r .last)) (r .word)
+atLast p r = row (r .first) (r .last) (bankOfBlock p (r .last)) (sizeOf p (r .last)) (r .word)
 
 -- what is told of an address: the refusal, and the block
 pub record Told : Type 0 where

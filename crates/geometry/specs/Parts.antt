@@ -7,8 +7,14 @@ use Rattle.geometry.specs.declared.Part.{Part}
 use Rattle.geometry.specs.declared.Part.the-variants.{Small, Full}
 
 -- "The part has 8,388,608 words of 16 bits in 270 blocks, numbered here 0 to 269"
-abbrev pub blockCount : ℕ
-blockCount = 270
+unfoldable pub blockCount : Part → ℕ
+blockCount Small = 270
+blockCount Full = 270
+
+-- "Banks 1A, 1B, 2A, 2B are 0 to 3"
+unfoldable pub bankCount : Part → ℕ
+bankCount Small = 4
+bankCount Full = 4
 
 unfoldable pub unitOf : Part → ℕ
 unitOf Small = 8
@@ -45,11 +51,16 @@ firstOf p b = unitOf p * firstIn b
 abbrev pub blockOf : Part → ℕ → ℕ
 blockOf p a = blockIn (a / unitOf p)
 
--- ---- banks: "Banks 1A, 1B, 2A, 2B are 0 to 3"
+-- ---- banks
+
+-- the first blocks of 1B, 2A and 2B part the blocks
+unfoldable pub bankIn : ℕ → ℕ
+bankIn b = cond (ltb b 39) 0 (cond (ltb b 135) 1 (cond (ltb b 231) 2 3))
 
 -- the bank of block b
-unfoldable pub bankOfBlock : ℕ → ℕ
-bankOfBlock b = cond (ltb b 39) 0 (cond (ltb b 135) 1 (cond (ltb b 231) 2 3))
+unfoldable pub bankOfBlock : Part → ℕ → ℕ
+bankOfBlock Small b = bankIn b
+bankOfBlock Full b = bankIn b
 
 -- the first words of 1B, 2A and 2B part the addresses
 unfoldable pub bankOf : Part → ℕ → ℕ

@@ -3,8 +3,10 @@ use Prim.Native.Nat.{ℕ}
 use mathlib.Core.Bool.{Bool, true, false, _&&_, _||_, not}
 use lib.Dec.{ltb}
 use Rattle.blocks.specs.declared.Blocks.{Blocks}
-use Rattle.blocks.specs.Blocks.{has, setOf, emptyOf, withOf, withoutOf, isEmptyOf, beyondOf}
+use Rattle.blocks.specs.Blocks.{has, setOf, emptyOf, withOf, withoutOf, isEmptyOf}
+use Rattle.geometry.specs.declared.Part.{Part}
 use Rattle.geometry.specs.Parts.{blockCount}
+use Rattle.regions.specs.Regions.{strayIn}
 use Rattle.protection.specs.declared.Protection.{Protection}
 
 abbrev pub bits : Blocks → Blocks → Bool → Protection
@@ -15,8 +17,15 @@ abbrev pub freshBits : Protection
 freshBits = bits emptyOf emptyOf false
 
 -- "Here 1 means protected. A block is protected if its DYB or PPB is 1."
-unfoldable pub protected : Protection → ℕ → Bool
-protected p b = has (p .dyb) b || has (p .ppb) b
+unfoldable pub protectedBy : (dyb ppb : Blocks) → ℕ → Bool
+protectedBy dyb ppb b = has dyb b || has ppb b
+
+abbrev pub protected : Protection → ℕ → Bool
+protected p b = protectedBy (p .dyb) (p .ppb) b
+
+-- the set of them
+abbrev pub protectedBlocks : Protection → Blocks
+protectedBlocks p = setOf (λ b. protected p b)
 
 -- "48H: the next write's low four data bits, 1 or 0, set or clear the DYB of its block"
 abbrev pub dybSet : Protection → ℕ → Protection
@@ -41,13 +50,13 @@ abbrev pub afterCut : Protection → Protection
 afterCut p = bits emptyOf (p .ppb) false
 
 -- "Chip erase ..; its list is every unprotected block"
-unfoldable pub unprotected : Protection → Blocks
-unprotected p = setOf (λ b. ltb b blockCount && not (protected p b))
+unfoldable pub unprotected : Part → Protection → Blocks
+unprotected part p = setOf (λ b. ltb b (blockCount part) && not (protected p b))
 
 -- "or for a chip erase every block is" protected
-abbrev pub allProtected : Protection → Bool
-allProtected p = isEmptyOf (unprotected p)
+abbrev pub allProtected : Part → Protection → Bool
+allProtected part p = isEmptyOf (unprotected part p)
 
--- a bit for a number that is no block's: "block numbers are in range" rules it out
-abbrev pub strayBits : Protection → Bool
-strayBits p = beyondOf (p .dyb) || beyondOf (p .ppb)
+-- a bit for a number that is no block's
+abbrev pub strayBits : Part → Protection → Bool
+strayBits part p = strayIn part (p .dyb) || strayIn part (p .ppb)
