@@ -1,14 +1,13 @@
 -- The laws of sets that callers use.
-use Prim.Native.Nat.{ℕ, zero, suc, _+_, _-_, _<_, _≤_}
+use Prim.Native.Nat.{ℕ, zero, suc, _-_, _<_, _≤_}
 use mathlib.Core.Path.{_≡_, refl, sym, ap, _∙_}
 use mathlib.Core.Bool.{Bool, true, false, true≢false, _||_, _&&_, not, and-false}
-use mathlib.Core.Logic.{_⊎_, inl, inr, ⊎-elim}
 use native.Mathlib.Decide.{decLt}
 use native.Mathlib.Omega.{arith}
-use lib.Dec.{eqb, ltb, leb}
-use borrow.Author.Tests.{eqb-true, ne-eqb, ltb-true, ltb-false, le-ltb, le-leb, not-false, not-true}
+use lib.Dec.{eqb}
+use borrow.Author.Tests.{eqb-true, ne-eqb, not-true}
 use Rattle.blocks.specs.declared.Blocks.{Blocks}
-use Rattle.blocks.specs.Blocks.{has, setOf, some, emptyOf, allOf, withOf, withoutOf, unionOf, minusOf, meetsOf, isEmptyOf, beyondOf}
+use Rattle.blocks.specs.Blocks.{has, setOf, some, emptyOf, withOf, withoutOf, unionOf, minusOf, meetsOf, isEmptyOf}
 use Rattle.blocks.proofs.View.{has-setOf, has-past}
 
 -- ---- some number below n
@@ -57,12 +56,17 @@ has-of p n h = go (decLt n 320)
 pub has-empty : (m : ℕ) → has emptyOf m ≡ false
 has-empty m = has-of (λ n. false) m (λ l. refl)
 
-pub has-all : (m : ℕ) → has allOf m ≡ ltb m 270
-has-all m = has-of (λ n. ltb n 270) m (λ l. le-ltb m 270 (omega arith))
-
 pub has-with : (s : Blocks) (n m : ℕ) → n < 320 → has (withOf s n) m ≡ (eqb m n || has s m)
 has-with s n m h =
     has-of (λ k. eqb k n || has s k) m (λ l. rw (ne-eqb m n (λ e. omega (arith, e)), has-past s m l))
+
+-- a number of the longer set is the added one, or was there before
+pub with-split : {P : Type 0} (s : Blocks) (n m : ℕ) → n < 320 → has (withOf s n) m ≡ true → (m ≡ n → P) → (has s m ≡ true → P) → P
+with-split {P} s n m l h f g = go (eqb m n) refl
+  where
+    go : (t : Bool) → eqb m n ≡ t → P
+    go true e = f (eqb-true m n e)
+    go false e = g (ap (λ (t : Bool). t || has s m) (sym e) ∙ sym (has-with s n m l) ∙ h)
 
 pub has-without : (s : Blocks) (n m : ℕ) → has (withoutOf s n) m ≡ (not (eqb m n) && has s m)
 has-without s n m = has-of (λ k. not (eqb k n) && has s k) m (λ l. rw (has-past s m l) (and-false (not (eqb m n))))
@@ -90,7 +94,7 @@ meets-none s t h = some-none (λ k. has s k && has t k) 320 (λ n l. go n l (has
     go n l true e = rw (e, h n l e)
     go n l false e = rw e
 
--- ---- no number at all, and none that is no block's
+-- ---- no number at all
 
 pub empty-not : (s : Blocks) (n : ℕ) → isEmptyOf s ≡ true → has s n ≡ false
 empty-not s n e = go (decLt n 320)
@@ -98,12 +102,3 @@ empty-not s n e = go (decLt n 320)
     go : Dec (n < 320) → has s n ≡ false
     go (yes l) = some-not (has s) 320 n (not-true (some (has s) 320) e) l
     go (no l) = has-past s n (omega arith)
-
-pub below-blocks : (s : Blocks) (n : ℕ) → beyondOf s ≡ false → has s n ≡ true → n < 270
-below-blocks s n e m = go (decLt n 270) (decLt n 320)
-  where
-    go : Dec (n < 270) → Dec (n < 320) → n < 270
-    go (yes l) d = l
-    go (no l) (yes k) =
-        absurd (true≢false (sym m ∙ ap (λ (b : Bool). b && has s n) (sym (le-leb 270 n (omega arith))) ∙ some-not (λ j. leb 270 j && has s j) 320 n e k))
-    go (no l) (no k) = absurd (true≢false (sym m ∙ has-past s n (omega arith)))

@@ -1,14 +1,15 @@
 -- Every part keeps the rules: what holds in units holds in words, for a unit of any size above 0.
-use Prim.Native.Nat.{ℕ, zero, suc, _+_, _*_, _/_, _<_, _≤_}
-use mathlib.Core.Path.{_≡_, refl, sym, ap, _∙_}
+use Prim.Native.Nat.{ℕ, suc, _+_, _*_, _/_, _<_, _≤_}
+use mathlib.Core.Path.{_≡_, sym, ap, _∙_}
 use mathlib.Core.Bool.{cond}
 use native.Mathlib.Nat.{div-lt-iff-lt-mul, le-div-iff-mul-le, mul-comm, mul-add, mul-zero, mul-pos, mul-le-mul-left}
 use native.Mathlib.Omega.{arith}
 use lib.Dec.{lit<, lit≤, ltb}
 use Rattle.geometry.specs.declared.Part.{Part}
 use Rattle.geometry.specs.declared.Part.the-variants.{Small, Full}
-use Rattle.geometry.specs.Parts.{unitOf, sizeIn, firstIn, blockIn, bankOf, bankOfBlock, firstOf, sizeOf, wordCount}
+use Rattle.geometry.specs.Parts.{unitOf, sizeIn, firstIn, blockIn, blockOf, bankIn, bankOf, bankOfBlock, firstOf, sizeOf, blockCount, wordCount}
 use Rattle.geometry.specs.Rules.{Laid}
+use Rattle.geometry.proofs.Counts.{blocks-are, bank-is}
 use Rattle.geometry.proofs.Units.{within, no-other, goes-on, some-units, same-test, bank-in, end-le}
 
 module _ (u : ℕ) (positive : 0 < u) where
@@ -40,7 +41,7 @@ module _ (u : ℕ) (positive : 0 < u) where
   same-mark : (a m : ℕ) → ltb a (u * m) ≡ ltb (a / u) m
   same-mark a m = same-test a (u * m) (a / u) m (unit-below a m) (unit-from a m)
 
-  pub bank-at : (a : ℕ) → cond (ltb a (u * 256)) 0 (cond (ltb a (u * 1024)) 1 (cond (ltb a (u * 1792)) 2 3)) ≡ bankOfBlock (blockIn (a / u))
+  pub bank-at : (a : ℕ) → cond (ltb a (u * 256)) 0 (cond (ltb a (u * 1024)) 1 (cond (ltb a (u * 1792)) 2 3)) ≡ bankIn (blockIn (a / u))
   bank-at a = rw (same-mark a 256, same-mark a 1024, same-mark a 1792) (bank-in (a / u))
 
 unit-positive : (p : Part) → 0 < unitOf p
@@ -54,15 +55,15 @@ laid p =
     let u = unitOf p in
     let more = unit-positive p in
     record {
-      in-block = λ a h. within (a / u) (unit-below u more a 2048 h) .below;
+      in-block = λ a h. rw (blocks-are p) (within (a / u) (unit-below u more a 2048 h) .below);
       from-first = λ a h. from-unit u more a (firstIn (blockIn (a / u))) (within (a / u) (unit-below u more a 2048 h) .from-first);
       to-last = λ a h. to-last-at u more a (blockIn (a / u)) (within (a / u) (unit-below u more a 2048 h) .to-last);
       no-other = no-other-at u more;
       begins = mul-zero u;
-      goes-on = goes-on-at u more;
-      ends = refl;
-      some-words = some-words-at u more;
-      one-bank = bank-at u more;
+      goes-on = λ b h. goes-on-at u more b (rw (blocks-are p) at h);
+      ends = rw (blocks-are p);
+      some-words = λ b h. some-words-at u more b (rw (blocks-are p) at h);
+      one-bank = λ a. bank-at u more a ∙ sym (bank-is p (blockIn (a / u)));
     }
 
 -- every block lies within the part; what is asked of a number that is no block's, too
@@ -74,3 +75,14 @@ pub words-le : (p : Part) → wordCount p ≤ 8388608
 unfolding unitOf
 words-le Small = lit≤ tt
 words-le Full = lit≤ tt
+
+-- the first word of a block lies in the part, in that block and in its bank
+module _ (p : Part) (b : ℕ) (below : b < blockCount p) where
+  pub first-below : firstOf p b < wordCount p
+  first-below = omega (arith, block-fits p b, laid p .some-words b below)
+
+  pub first-block : blockOf p (firstOf p b) ≡ b
+  first-block = laid p .no-other (firstOf p b) b (omega arith) (omega (arith, laid p .some-words b below))
+
+  pub first-bank : bankOf p (firstOf p b) ≡ bankOfBlock p b
+  first-bank = laid p .one-bank (firstOf p b) ∙ ap (bankOfBlock p) first-block

@@ -1,4 +1,5 @@
 pub mod Table
 pub mod Units
+pub mod Counts
 pub mod Laid
 pub mod Figures

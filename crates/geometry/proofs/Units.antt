@@ -1,13 +1,13 @@
 -- The rules in units of the boot block: which blocks lie where, as plain arithmetic.
-use Prim.Native.Nat.{ℕ, zero, suc, _+_, _-_, _*_, _/_, _%_, _<_, _≤_}
-use mathlib.Core.Path.{_≡_, refl, sym, ap, _∙_}
+use Prim.Native.Nat.{ℕ, suc, _+_, _-_, _*_, _/_, _<_, _≤_}
+use mathlib.Core.Path.{_≡_, refl, sym, _∙_}
 use mathlib.Core.Bool.{Bool, true, false, cond}
 use native.Mathlib.Decide.{decLt}
 use native.Mathlib.Nat.{mul-one, mul-zero}
 use native.Mathlib.Omega.{arith}
 use lib.Dec.{ltb}
-use borrow.Author.Tests.{ltb-true, ltb-false, lt-ltb, le-ltb}
-use Rattle.geometry.specs.Parts.{sizeIn, firstIn, blockIn, bankOfBlock}
+use borrow.Author.Tests.{lt-ltb, le-ltb}
+use Rattle.geometry.specs.Parts.{sizeIn, firstIn, blockIn, bankIn}
 use Rattle.geometry.specs.Runs.{sizeBy}
 
 -- ---- a block by its run
@@ -153,8 +153,8 @@ mark k b u l h e =
     (λ m. by-unit (blockIn k < b) k (λ n. omega (arith, unit-boot k n)) (λ n o. omega (arith, unit-main k n o)) (λ n. absurd (omega arith)))
     (λ m. by-unit (b ≤ blockIn k) k (λ n. absurd (omega arith)) (λ n o. omega (arith, unit-main k n o)) (λ n. omega (arith, unit-top k n)))
 
-pub bank-in : (k : ℕ) → cond (ltb k 256) 0 (cond (ltb k 1024) 1 (cond (ltb k 1792) 2 3)) ≡ bankOfBlock (blockIn k)
-unfolding bankOfBlock
+pub bank-in : (k : ℕ) → cond (ltb k 256) 0 (cond (ltb k 1024) 1 (cond (ltb k 1792) 2 3)) ≡ bankIn (blockIn k)
+unfolding bankIn
 bank-in k =
     rw (mark k 39 256 (omega arith) (omega arith) refl, mark k 135 1024 (omega arith) (omega arith) refl, mark k 231 1792 (omega arith) (omega arith) refl)
 

@@ -1,6 +1,6 @@
 -- What a program in C is told of an address, by plain numbers (document 01, "The die and its small twin").
 use Prim.Native.Nat.{ℕ}
-use mathlib.Core.Bool.{Bool, cond}
+use mathlib.Core.Bool.{cond}
 use lib.Dec.{ltb}
 use Rattle.geometry.specs.declared.Part.{Part}
 use Rattle.geometry.specs.Parts.{wordCount, blockOf, bankOf}

@@ -1,7 +1,7 @@
 -- Blocks and banks of a part (document 01, "The die and its small twin"). Every size and every first word is a
 -- multiple of the part's boot block, its unit: 4,096 words on the die, and 512 times fewer on the small part.
 use Prim.Native.Nat.{ℕ, _+_, _-_, _*_, _/_}
-use mathlib.Core.Bool.{Bool, cond}
+use mathlib.Core.Bool.{cond}
 use lib.Dec.{ltb}
 use Rattle.geometry.specs.declared.Part.{Part}
 use Rattle.geometry.specs.declared.Part.the-variants.{Small, Full}

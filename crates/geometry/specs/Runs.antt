@@ -22,7 +22,7 @@ pub record HoldsBlock (b : ℕ) (r : Run) : Type 0 where
   pub fits : r .unit + (b - r .block) * 2 ^ r .shift % 2 ^ 64 < 2 ^ 64
   pub tells : r .unit + (b - r .block) * 2 ^ r .shift % 2 ^ 64 ≡ firstIn b
 
--- the bank of an address, by the first words of the four banks
+-- the bank of a word or a block, by the first of each bank
 unfoldable pub bankBy : List ℕ → ℕ → ℕ
 bankBy starts a =
     cond (ltb a (getD starts 1 0)) 0 (cond (ltb a (getD starts 2 0)) 1 (cond (ltb a (getD starts 3 0)) 2 3))

@@ -1,8 +1,8 @@
 // The two parts, their blocks and their banks (document 01, "The die and its small twin").
 ghost use mathlib.Core.Path.{_≡_};
-ghost use Prim.Native.Nat.{_*_, _/_, _≤_};
+ghost use Prim.Native.Nat.{_*_, _/_};
 ghost use Rattle.geometry.specs.declared.Part.the-variants.{Small, Full};
-ghost use Rattle.geometry.specs.Parts.{wordCount, unitOf, blockOf, bankOf, firstOf, sizeOf, bankOfBlock};
+ghost use Rattle.geometry.specs.Parts.{wordCount, blockCount, bankCount, unitOf, blockOf, bankOf, firstOf, sizeOf, bankOfBlock};
 
 mod asked;
 mod parts;
@@ -40,6 +40,26 @@ impl Part {
         }
     }
 
+    pub fn blocks(self) -> usize
+        ensures { λ r. ⌜ r ≡ blockCount self ⌝ }
+    {
+        let part = self;
+        match part {
+            Part::Small => SmallPart::BLOCKS,
+            Part::Full => FullPart::BLOCKS,
+        }
+    }
+
+    pub fn banks(self) -> usize
+        ensures { λ r. ⌜ r ≡ bankCount self ⌝ }
+    {
+        let part = self;
+        match part {
+            Part::Small => SmallPart::BANKS,
+            Part::Full => FullPart::BANKS,
+        }
+    }
+
     // The block of an address. Of an address past the part it tells the number that a block there would have.
     pub fn block_of(self, address: usize) -> usize
         ensures { λ r. ⌜ r ≡ blockOf self address ⌝ }
@@ -52,12 +72,22 @@ impl Part {
     {
         let part = self;
         match part {
-            Part::Small => parts::bank_by(SmallPart::BANKS, address),
-            Part::Full => parts::bank_by(FullPart::BANKS, address),
+            Part::Small => parts::bank_by(SmallPart::BANK_WORDS, address),
+            Part::Full => parts::bank_by(FullPart::BANK_WORDS, address),
         }
     }
 
-    // The first word of a block; the word count from block 270 on.
+    pub fn bank_of_block(self, block: usize) -> usize
+        ensures { λ r. ⌜ r ≡ bankOfBlock self block ⌝ }
+    {
+        let part = self;
+        match part {
+            Part::Small => parts::bank_by(SmallPart::BANK_BLOCKS, block),
+            Part::Full => parts::bank_by(FullPart::BANK_BLOCKS, block),
+        }
+    }
+
+    // The first word of a block; the word count of a number past the last block.
     pub fn first_of(self, block: usize) -> usize
         ensures { λ r. ⌜ r ≡ firstOf self block ⌝ }
     {
@@ -69,7 +99,7 @@ impl Part {
         }
     }
 
-    // How many words a block has; none from block 270 on.
+    // How many words a block has; none of a number past the last block.
     pub fn size_of(self, block: usize) -> usize
         ensures { λ r. ⌜ r ≡ sizeOf self block ⌝ }
     {
@@ -90,19 +120,4 @@ impl Part {
             Part::Full => address / FullPart::BOOT_BLOCK,
         }
     }
-}
-
-pub fn bank_of_block(block: usize) -> usize
-    ensures { λ r. ⌜ r ≡ bankOfBlock block ⌝ }
-{
-    if block < 39 {
-        return 0;
-    }
-    if block < 135 {
-        return 1;
-    }
-    if block < 231 {
-        return 2;
-    }
-    3
 }

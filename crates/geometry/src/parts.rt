@@ -1,4 +1,4 @@
-// What each part owns: its word count, its block sizes and the first words of its four banks.
+// What each part owns: its counts, its block sizes, and the first words and the first blocks of its banks.
 ghost use mathlib.Core.Path.{_≡_};
 ghost use Rattle.geometry.specs.Runs.{bankBy, sizeBy};
 
@@ -7,11 +7,17 @@ pub struct SmallPart {}
 impl SmallPart {
     pub const WORDS: usize = 16384;
 
+    pub const BLOCKS: usize = 270;
+
+    pub const BANKS: usize = 4;
+
     pub const BOOT_BLOCK: usize = 8;
 
     pub const MAIN_BLOCK: usize = 64;
 
-    pub const BANKS: [usize; 4] = [0, 2048, 8192, 14336];
+    pub const BANK_WORDS: [usize; 4] = [0, 2048, 8192, 14336];
+
+    pub const BANK_BLOCKS: [usize; 4] = [0, 39, 135, 231];
 }
 
 pub struct FullPart {}
@@ -19,24 +25,30 @@ pub struct FullPart {}
 impl FullPart {
     pub const WORDS: usize = 8388608;
 
+    pub const BLOCKS: usize = 270;
+
+    pub const BANKS: usize = 4;
+
     pub const BOOT_BLOCK: usize = 4096;
 
     pub const MAIN_BLOCK: usize = 32768;
 
-    pub const BANKS: [usize; 4] = [0, 1048576, 4194304, 7340032];
+    pub const BANK_WORDS: [usize; 4] = [0, 1048576, 4194304, 7340032];
+
+    pub const BANK_BLOCKS: [usize; 4] = [0, 39, 135, 231];
 }
 
-// The bank of an address, by the first words of the banks.
-pub fn bank_by(starts: [usize; 4], address: usize) -> usize
-    ensures { λ r. ⌜ r ≡ bankBy starts address ⌝ }
+// The bank of a word or a block, by the first of each bank.
+pub fn bank_by(starts: [usize; 4], at: usize) -> usize
+    ensures { λ r. ⌜ r ≡ bankBy starts at ⌝ }
 {
-    if address < starts[1] {
+    if at < starts[1] {
         return 0;
     }
-    if address < starts[2] {
+    if at < starts[2] {
         return 1;
     }
-    if address < starts[3] {
+    if at < starts[3] {
         return 2;
     }
     3

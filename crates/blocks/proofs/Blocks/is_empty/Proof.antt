@@ -1,5 +1,3 @@
-use mathlib.Core.Path.{ap, _∙_}
-use mathlib.Core.Bool.{not}
 use borrow.Author.Needs.{needs}
 use Rattle.blocks.proofs.Words.{fits}
 use Rattle.blocks.proofs.Made.{none-is}
