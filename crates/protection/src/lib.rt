@@ -1,8 +1,9 @@
 // Which blocks are protected: a DYB and a PPB for each block, and the bit that locks the PPBs (document 01, "Command
 // cycles"). 1 means protected.
 ghost use mathlib.Core.Path.{_≡_};
-ghost use Rattle.protection.specs.Protection.{freshBits, dybSet, dybCleared, ppbSet, ppbsCleared, locked, afterCut, protected, allProtected, unprotected, strayBits};
+ghost use Rattle.protection.specs.Protection.{freshBits, dybSet, dybCleared, ppbSet, ppbsCleared, locked, afterCut, protected, protectedBlocks, unprotected, strayBits};
 use blocks::Blocks;
+use geometry::Part;
 
 pub struct Protection {
     pub dyb: Blocks,
@@ -91,7 +92,7 @@ impl Protection {
         }
     }
 
-    // The one check of a block: everyone who asks goes through it.
+    // The one check of a block, and below the one set of them: whoever asks goes through these two.
     pub fn is_protected(self, block: usize) -> bool
         ensures { λ r. ⌜ r ≡ protected self block ⌝ }
     {
@@ -101,26 +102,26 @@ impl Protection {
         self.ppb.has(block)
     }
 
-    // The blocks that may be programmed and erased.
-    pub fn unprotected(self) -> Blocks
-        ensures { λ r. ⌜ r ≡ unprotected self ⌝ }
+    pub fn protected_blocks(self) -> Blocks
+        ensures { λ r. ⌜ r ≡ protectedBlocks self ⌝ }
     {
-        Blocks::all().minus(self.dyb.union(self.ppb))
+        self.dyb.union(self.ppb)
     }
 
-    pub fn all_protected(self) -> bool
-        ensures { λ r. ⌜ r ≡ allProtected self ⌝ }
+    // The blocks that may be programmed and erased.
+    pub fn unprotected(self, part: Part) -> Blocks
+        ensures { λ r. ⌜ r ≡ unprotected part self ⌝ }
     {
-        self.unprotected().is_empty()
+        regions::blocks_of(part).minus(self.protected_blocks())
     }
 
     // Is there a bit for a number that is no block's?
-    pub fn has_stray(self) -> bool
-        ensures { λ r. ⌜ r ≡ strayBits self ⌝ }
+    pub fn has_stray(self, part: Part) -> bool
+        ensures { λ r. ⌜ r ≡ strayBits part self ⌝ }
     {
-        if self.dyb.beyond() {
+        if regions::has_stray(part, self.dyb) {
             return true;
         }
-        self.ppb.beyond()
+        regions::has_stray(part, self.ppb)
     }
 }

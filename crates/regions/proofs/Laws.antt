@@ -7,7 +7,7 @@ use native.Mathlib.Omega.{arith}
 use lib.Dec.{ltb, eqb}
 use borrow.Author.Tests.{ltb-true, lt-ltb, le-ltb}
 use Rattle.blocks.specs.declared.Blocks.{Blocks}
-use Rattle.blocks.specs.Blocks.{has, setOf, emptyOf, withOf, withoutOf, meetsOf}
+use Rattle.blocks.specs.Blocks.{has, emptyOf, withOf, withoutOf, meetsOf}
 use Rattle.blocks.proofs.View.{has-setOf, has-past}
 use Rattle.blocks.proofs.Laws.{has-of, has-empty, has-without, with-split, some-not, some-none, some-same}
 use Rattle.geometry.specs.declared.Part.{Part}

@@ -6,7 +6,7 @@ pub has-stray-spec : {M : Type 1} → statement M
 has-stray-spec =
     tie.close
     (tie.spec
-    (λ c κs. search needs)  -- beyond-requires
-    (λ c. rw (← c .before .beyond .ensures, c .if1 .taken))  -- returns
-    (λ c κs. search needs)  -- beyond-requires-2
-    (λ c. rw (c .beyond2 .ensures, ← c .before .before .beyond .ensures, c .before .if1 .left)))  -- returns-2
+    (λ c κs. search needs)  -- has-stray-requires
+    (λ c. rw (← c .before .has-stray .ensures, c .if1 .taken))  -- returns
+    (λ c κs. search needs)  -- has-stray-requires-2
+    (λ c. rw (c .has-stray2 .ensures, ← c .before .before .has-stray .ensures, c .before .if1 .left)))  -- returns-2

@@ -1,10 +1,10 @@
 use borrow.Author.Needs.{needs}
-use Rattle.protection.specs.Protection.{protected}
+use Rattle.protection.specs.Protection.{protectedBy}
 use Rattle.protection.proofs.Protection.is_protected.Statement.{statement}
 use Rattle.protection.proofs.Protection.is_protected.Tie as tie
 
 pub is-protected-spec : {M : Type 1} → statement M
-unfolding protected
+unfolding protectedBy
 is-protected-spec =
     tie.close
     (tie.spec

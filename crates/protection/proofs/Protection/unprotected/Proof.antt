@@ -7,7 +7,7 @@ pub unprotected-spec : {M : Type 1} → statement M
 unprotected-spec =
     tie.close
     (tie.spec
-    (λ c κs. search needs)  -- all-requires
-    (λ c κs. search needs)  -- union-requires
+    (λ c κs. search needs)  -- blocks-of-requires
+    (λ c κs. search needs)  -- protected-blocks-requires
     (λ c κs. search needs)  -- minus-requires
-    (λ c. rw (c .minus .ensures, c .before .union .ensures, c .before .before .all .ensures) (unprotected-is _)))  -- returns
+    (λ c. rw (c .minus .ensures, c .before .protected-blocks .ensures, c .before .before .blocks-of .ensures) (unprotected-is _ _)))  -- returns
