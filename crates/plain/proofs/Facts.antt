@@ -2,14 +2,16 @@
 use Prim.Native.Nat.{ℕ, _*_, _<_, _≤_}
 use mathlib.Core.Path.{_≡_, refl}
 use mathlib.Core.Bool.{Bool, true, false, _&&_, not}
+use native.Mathlib.Omega.{arith}
 use lib.Dec.{ltb, leb, eqb}
-use borrow.Author.Tests.{ltb-true, leb-true, eqb-true, not-true}
-use Rattle.blocks.specs.Blocks.{has, some, setOf, pack}
+use borrow.Author.Tests.{ltb-true, leb-true, eqb-true, not-true, le-leb}
+use Rattle.blocks.specs.Blocks.{has, some}
 use Rattle.blocks.proofs.Laws.{some-not}
 use Rattle.geometry.specs.declared.Part.{Part}
-use Rattle.geometry.specs.Parts.{blockCount, wordCount, blockOf, bankOfBlock}
+use Rattle.geometry.specs.Parts.{blockCount, bankOfBlock}
 use Rattle.protection.specs.declared.Protection.{Protection}
 use Rattle.protection.specs.Protection.{protected, strayBits}
+use Rattle.protection.proofs.Stray.{stray-fresh}
 use Rattle.plain.specs.declared.Program.{Program}
 use Rattle.plain.specs.declared.Erase.{Erase}
 use Rattle.plain.specs.declared.SuspendedErase.{SuspendedErase}
@@ -18,8 +20,10 @@ use Rattle.plain.specs.declared.Operation.{Operation}
 use Rattle.plain.specs.declared.Operation.the-variants.{Programming, ProgramSuspended, Window, Erasing, EraseSuspended, ChipErasing}
 use Rattle.plain.specs.declared.Device.{Device}
 use Rattle.plain.specs.Figures.{programTime, windowTime, eraseTime, chipTime, runningCurrent, clockLimit}
+use Rattle.plain.specs.Operations.{runningOf, suspensionOf}
+use Rattle.plain.specs.Programs.{liesIn, blockWritten}
 use Rattle.plain.specs.Record.{fresh}
-use Rattle.plain.specs.Sound.{meterSound, timeSound, programSound, mayErase, mayChipErase, listSound, chipListSound, lowest, insideSound, operationSound, idleCommand, commandSound, sound}
+use Rattle.plain.specs.Sound.{meterSound, timeSound, programSound, mayErase, mayChipErase, listSound, chipListSound, lowest, insideSound, operationSound, isStill, stillCommand, commandSound, sound}
 use Rattle.plain.proofs.Tools.{both-left, both-right, clash}
 use Rattle.plain.proofs.Lists.{only-at}
 
@@ -31,8 +35,8 @@ and-outer false b c e = e
 -- ---- the record's parts
 
 pub fresh-sound : (p : Part) → sound p fresh ≡ true
-unfolding sound meterSound some has setOf pack operationSound commandSound idleCommand
-fresh-sound p = refl
+unfolding sound meterSound operationSound commandSound isStill stillCommand runningOf suspensionOf
+fresh-sound p = rw (stray-fresh p, le-leb 0 (clockLimit p) (omega arith), le-leb 0 (runningCurrent p * 0) (omega arith))
 
 module _ (p : Part) (r : Device) (s : sound p r ≡ true) where
   meter-sound : meterSound p (r .meter) ≡ true
@@ -47,41 +51,41 @@ module _ (p : Part) (r : Device) (s : sound p r ≡ true) where
   unfolding meterSound
   sound-charge = leb-true _ _ (both-right (leb (r .meter .clock) (clockLimit p)) _ meter-sound)
 
-  pub sound-bits : strayBits (r .bits) ≡ false
+  pub sound-bits : strayBits p (r .bits) ≡ false
   unfolding sound
   sound-bits =
-      not-true (strayBits (r .bits)) (both-left (not (strayBits (r .bits))) _ (both-right (meterSound p (r .meter)) _ s))
+      not-true (strayBits p (r .bits)) (both-left (not (strayBits p (r .bits))) _ (both-right (meterSound p (r .meter)) _ s))
 
-  both-sound : (operationSound p (r .bits) (r .operation) && commandSound (r .operation) (r .command)) ≡ true
+  both-sound : (operationSound p (r .bits) (r .operation) && commandSound p (r .operation) (r .command)) ≡ true
   unfolding sound
-  both-sound = both-right (not (strayBits (r .bits))) _ (both-right (meterSound p (r .meter)) _ s)
+  both-sound = both-right (not (strayBits p (r .bits))) _ (both-right (meterSound p (r .meter)) _ s)
 
   -- of the operation as a match tells it
   pub sound-operation : (o : Operation) → r .operation ≡ o → operationSound p (r .bits) o ≡ true
   sound-operation o e = rw e at (both-left (operationSound p (r .bits) (r .operation)) _ both-sound)
 
-  pub sound-command : commandSound (r .operation) (r .command) ≡ true
+  pub sound-command : commandSound p (r .operation) (r .command) ≡ true
   sound-command = both-right (operationSound p (r .bits) (r .operation)) _ both-sound
 
 -- ---- a program
 
 pub record ProgramFacts (p : Part) (bits : Protection) (q : Program) : Type 0 where
-  pub in-part : q .at < wordCount p
+  pub in-part : liesIn p (q .writes) ≡ true
   pub some-left : 1 ≤ q .left
   pub most-left : q .left ≤ programTime p
-  pub unprotected : protected bits (blockOf p (q .at)) ≡ false
+  pub unprotected : protected bits (blockWritten p (q .writes)) ≡ false
 
 program-facts : (p : Part) (bits : Protection) (q : Program) → programSound p bits q ≡ true → ProgramFacts p bits q
 unfolding programSound
 program-facts p bits q s =
-    let in-range = ltb (q .at) (wordCount p) in
+    let in-range = liesIn p (q .writes) in
     let timely = timeSound (q .left) (programTime p) in
     let time = both-left timely _ (both-right in-range _ s) in
     record {
-      in-part = ltb-true _ _ (both-left in-range _ s);
+      in-part = both-left in-range _ s;
       some-left = leb-true _ _ (both-left (leb 1 (q .left)) _ time);
       most-left = leb-true _ _ (both-right (leb 1 (q .left)) _ time);
-      unprotected = not-true (protected bits (blockOf p (q .at))) (both-right timely _ (both-right in-range _ s));
+      unprotected = not-true (protected bits (blockWritten p (q .writes))) (both-right timely _ (both-right in-range _ s));
     }
 
 pub programming : (p : Part) (bits : Protection) (q : Program) → operationSound p bits (Programming q) ≡ true → ProgramFacts p bits q
@@ -95,87 +99,87 @@ program-suspended = program-facts
 -- ---- an erase
 
 -- of a block erase and of a chip erase, where a block takes the full time
-pub record EraseFacts (bits : Protection) (e : Erase) (full : ℕ) : Type 0 where
+pub record EraseFacts (p : Part) (bits : Protection) (e : Erase) (full : ℕ) : Type 0 where
   pub hand-listed : has (e .list) (e .hand) ≡ true
-  pub below : (b : ℕ) → has (e .list) b ≡ true → b < blockCount
+  pub below : (b : ℕ) → has (e .list) b ≡ true → b < blockCount p
   pub unprotected : (b : ℕ) → has (e .list) b ≡ true → protected bits b ≡ false
   pub some-left : 1 ≤ e .left
   pub most-left : e .left ≤ full
 
-pub record BlockEraseFacts (bits : Protection) (e : Erase) (full : ℕ) : Type 0 where
-  pub erase : EraseFacts bits e full
-  pub one-bank : (b : ℕ) → has (e .list) b ≡ true → bankOfBlock b ≡ bankOfBlock (e .hand)
+pub record BlockEraseFacts (p : Part) (bits : Protection) (e : Erase) (full : ℕ) : Type 0 where
+  pub erase : EraseFacts p bits e full
+  pub one-bank : (b : ℕ) → has (e .list) b ≡ true → bankOfBlock p b ≡ bankOfBlock p (e .hand)
 
-pub list-hand : (bits : Protection) (e : Erase) → listSound bits e ≡ true → has (e .list) (e .hand) ≡ true
+pub list-hand : (p : Part) (bits : Protection) (e : Erase) → listSound p bits e ≡ true → has (e .list) (e .hand) ≡ true
 unfolding listSound
-list-hand bits e s = both-left (has (e .list) (e .hand)) _ s
+list-hand p bits e s = both-left (has (e .list) (e .hand)) _ s
 
-erase-facts : (bits : Protection) (e : Erase) (full : ℕ) → has (e .list) (e .hand) ≡ true → ((b : ℕ) → has (e .list) b ≡ true → mayChipErase bits b ≡ true)
-    → timeSound (e .left) full ≡ true → EraseFacts bits e full
-erase-facts bits e full hand may time =
+erase-facts : (p : Part) (bits : Protection) (e : Erase) (full : ℕ) → has (e .list) (e .hand) ≡ true → ((b : ℕ) → has (e .list) b ≡ true → mayChipErase p bits b ≡ true)
+    → timeSound (e .left) full ≡ true → EraseFacts p bits e full
+erase-facts p bits e full hand may time =
     record {
       hand-listed = hand;
-      below = λ b h. ltb-true _ _ (both-left (ltb b blockCount) _ (may b h));
-      unprotected = λ b h. not-true (protected bits b) (both-right (ltb b blockCount) _ (may b h));
+      below = λ b h. ltb-true _ _ (both-left (ltb b (blockCount p)) _ (may b h));
+      unprotected = λ b h. not-true (protected bits b) (both-right (ltb b (blockCount p)) _ (may b h));
       some-left = leb-true _ _ (both-left (leb 1 (e .left)) _ time);
       most-left = leb-true _ _ (both-right (leb 1 (e .left)) _ time);
     }
 
-block-erase-facts : (bits : Protection) (e : Erase) (full : ℕ) → listSound bits e ≡ true → timeSound (e .left) full ≡ true → BlockEraseFacts bits e full
+block-erase-facts : (p : Part) (bits : Protection) (e : Erase) (full : ℕ) → listSound p bits e ≡ true → timeSound (e .left) full ≡ true → BlockEraseFacts p bits e full
 unfolding listSound
-block-erase-facts bits e full listed time =
+block-erase-facts p bits e full listed time =
     record {
-      erase = erase-facts bits e full (list-hand bits e listed) (λ b h. and-outer (ltb b blockCount) (eqb (bankOfBlock b) (bankOfBlock (e .hand))) _ (may b h)) time;
-      one-bank = λ b h. eqb-true _ _ (both-left (eqb (bankOfBlock b) (bankOfBlock (e .hand))) _ (both-right (ltb b blockCount) _ (may b h)));
+      erase = erase-facts p bits e full (list-hand p bits e listed) (λ b h. and-outer (ltb b (blockCount p)) (eqb (bankOfBlock p b) (bankOfBlock p (e .hand))) _ (may b h)) time;
+      one-bank = λ b h. eqb-true _ _ (both-left (eqb (bankOfBlock p b) (bankOfBlock p (e .hand))) _ (both-right (ltb b (blockCount p)) _ (may b h)));
     }
   where
-    may : (b : ℕ) → has (e .list) b ≡ true → mayErase bits (e .hand) b ≡ true
-    may b = only-at (mayErase bits (e .hand)) (e .list) b (both-right (has (e .list) (e .hand)) _ listed)
+    may : (b : ℕ) → has (e .list) b ≡ true → mayErase p bits (e .hand) b ≡ true
+    may b = only-at (mayErase p bits (e .hand)) (e .list) b (both-right (has (e .list) (e .hand)) _ listed)
 
 -- in the window the time left is the window's
-pub window : (p : Part) (bits : Protection) (e : Erase) → operationSound p bits (Window e) ≡ true → BlockEraseFacts bits e (windowTime p)
+pub window : (p : Part) (bits : Protection) (e : Erase) → operationSound p bits (Window e) ≡ true → BlockEraseFacts p bits e (windowTime p)
 unfolding operationSound
 window p bits e s =
-    block-erase-facts bits e (windowTime p) (both-left (listSound bits e) _ s) (both-right (lowest e) _ (both-right (listSound bits e) _ s))
+    block-erase-facts p bits e (windowTime p) (both-left (listSound p bits e) _ s) (both-right (lowest e) _ (both-right (listSound p bits e) _ s))
 
 pub window-lowest : (p : Part) (bits : Protection) (e : Erase) → operationSound p bits (Window e) ≡ true → (b : ℕ) → b < e .hand → has (e .list) b ≡ false
 unfolding operationSound lowest
 window-lowest p bits e s b l =
     some-not (has (e .list)) (e .hand) b
-    (not-true (some (has (e .list)) (e .hand)) (both-left (lowest e) _ (both-right (listSound bits e) _ s))) l
+    (not-true (some (has (e .list)) (e .hand)) (both-left (lowest e) _ (both-right (listSound p bits e) _ s))) l
 
-pub erasing : (p : Part) (bits : Protection) (e : Erase) → operationSound p bits (Erasing e) ≡ true → BlockEraseFacts bits e (eraseTime p)
+pub erasing : (p : Part) (bits : Protection) (e : Erase) → operationSound p bits (Erasing e) ≡ true → BlockEraseFacts p bits e (eraseTime p)
 unfolding operationSound
 erasing p bits e s =
-    block-erase-facts bits e (eraseTime p) (both-left (listSound bits e) _ s) (both-right (listSound bits e) _ s)
+    block-erase-facts p bits e (eraseTime p) (both-left (listSound p bits e) _ s) (both-right (listSound p bits e) _ s)
 
-pub erase-suspended : (p : Part) (bits : Protection) (s : SuspendedErase) → operationSound p bits (EraseSuspended s) ≡ true → BlockEraseFacts bits (s .erase) (eraseTime p)
+pub erase-suspended : (p : Part) (bits : Protection) (s : SuspendedErase) → operationSound p bits (EraseSuspended s) ≡ true → BlockEraseFacts p bits (s .erase) (eraseTime p)
 unfolding operationSound
 erase-suspended p bits s h =
     erasing p bits (s .erase) (both-left (operationSound p bits (Erasing (s .erase))) _ h)
 
-pub chip-erasing : (p : Part) (bits : Protection) (e : Erase) → operationSound p bits (ChipErasing e) ≡ true → EraseFacts bits e (chipTime p)
+pub chip-erasing : (p : Part) (bits : Protection) (e : Erase) → operationSound p bits (ChipErasing e) ≡ true → EraseFacts p bits e (chipTime p)
 unfolding operationSound chipListSound
 chip-erasing p bits e s =
-    erase-facts bits e (chipTime p) (both-left (has (e .list) (e .hand)) _ listed)
-    (λ b. only-at (mayChipErase bits) (e .list) b (both-right (has (e .list) (e .hand)) _ listed))
-    (both-right (chipListSound bits e) _ s)
+    erase-facts p bits e (chipTime p) (both-left (has (e .list) (e .hand)) _ listed)
+    (λ b. only-at (mayChipErase p bits) (e .list) b (both-right (has (e .list) (e .hand)) _ listed))
+    (both-right (chipListSound p bits e) _ s)
   where
-    listed : chipListSound bits e ≡ true
-    listed = both-left (chipListSound bits e) _ s
+    listed : chipListSound p bits e ≡ true
+    listed = both-left (chipListSound p bits e) _ s
 
 -- ---- a program inside a suspended erase
 
 pub record InsideFacts (p : Part) (bits : Protection) (e : Erase) (q : Program) : Type 0 where
   pub program : ProgramFacts p bits q
-  pub off-list : has (e .list) (blockOf p (q .at)) ≡ false
+  pub off-list : has (e .list) (blockWritten p (q .writes)) ≡ false
 
 pub inside-runs : (p : Part) (bits : Protection) (s : SuspendedErase) (q : Program) → operationSound p bits (EraseSuspended s) ≡ true → s .inside ≡ Runs q → InsideFacts p bits (s .erase) q
 unfolding operationSound insideSound
 inside-runs p bits s q h told =
     record {
       program = program-facts p bits q (both-left (programSound p bits q) _ runs);
-      off-list = not-true (has (s .erase .list) (blockOf p (q .at))) (both-right (programSound p bits q) _ runs);
+      off-list = not-true (has (s .erase .list) (blockWritten p (q .writes))) (both-right (programSound p bits q) _ runs);
     }
   where
     runs : insideSound p bits (s .erase) (Runs q) ≡ true

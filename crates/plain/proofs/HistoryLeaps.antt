@@ -20,24 +20,24 @@ use Rattle.plain.proofs.Leaps.{Due, never, due}
 -- the time to go until something comes to pass
 unfoldable pub toGo : Part → Doing → Due
 toGo p nothing = never
-toGo p (programs a w g) = due (programTime p - g)
-toGo p (pauses a w g) = never
+toGo p (programs d g) = due (programTime p - g)
+toGo p (pauses d g) = never
 toGo p (waits l b g) = due (windowTime p - g)
 toGo p (erases l b g) = due (eraseTime p - g)
 toGo p (wipes l b g) = due (chipTime p - g)
 toGo p (rests l b g) = never
-toGo p (programsIn a w pg l b g) = due (programTime p - pg)
+toGo p (programsIn d pg l b g) = due (programTime p - pg)
 
 -- the same with k microseconds more gone
 unfoldable pub further : Doing → ℕ → Doing
 further nothing k = nothing
-further (programs a w g) k = programs a w (g + k)
-further (pauses a w g) k = pauses a w g
+further (programs d g) k = programs d (g + k)
+further (pauses d g) k = pauses d g
 further (waits l b g) k = waits l b (g + k)
 further (erases l b g) k = erases l b (g + k)
 further (wipes l b g) k = wipes l b (g + k)
 further (rests l b g) k = rests l b g
-further (programsIn a w pg l b g) k = programsIn a w (pg + k) l b g
+further (programsIn d pg l b g) k = programsIn d (pg + k) l b g
 
 unfoldable pub later : Part → ℕ → Told → Told
 later p k h = telling (h .command) (further (h .doing) k) (h .dyb) (h .ppb) (h .facts) (h .clock + k) (h .charge + k * draws p (h .doing))
@@ -105,10 +105,10 @@ module _ (p : Part) (c : Command) (y q : Blocks) where
   quiet-time : (d : Doing) (l : ℕ) → toGo p d ≡ due l → (k : ℕ) → k < l → (fs : List Fact) (t e : ℕ) → time p k (at-time d fs t e) ≡ later p k (at-time d fs t e)
   unfolding toGo later further draws goes comes
   quiet-time nothing l x k h fs t e = let z : _≡_ {A = ℕ} 0 1 = cc in absurd (omega arith)
-  quiet-time (programs a w g) l x k h fs t e =
+  quiet-time (programs d g) l x k h fs t e =
       let i : programTime p - g ≡ l = cc in
-      counted (programs a w) (programTime p) _ (record { on = λ n m. rw (not-yet n (programTime p) m); quiet = λ n m f. rw (not-yet n (programTime p) m); rates = λ n. refl }) k g (omega arith) fs t e
-  quiet-time (pauses a w g) l x k h fs t e = let z : _≡_ {A = ℕ} 0 1 = cc in absurd (omega arith)
+      counted (programs d) (programTime p) _ (record { on = λ n m. rw (not-yet n (programTime p) m); quiet = λ n m f. rw (not-yet n (programTime p) m); rates = λ n. refl }) k g (omega arith) fs t e
+  quiet-time (pauses d g) l x k h fs t e = let z : _≡_ {A = ℕ} 0 1 = cc in absurd (omega arith)
   quiet-time (waits s b g) l x k h fs t e =
       let i : windowTime p - g ≡ l = cc in
       counted (waits s b) (windowTime p) _ (record { on = λ n m. rw (not-yet n (windowTime p) m); quiet = λ n m f. refl; rates = λ n. refl }) k g (omega arith) fs t e
@@ -119,20 +119,20 @@ module _ (p : Part) (c : Command) (y q : Blocks) where
       let i : chipTime p - g ≡ l = cc in
       counted (wipes s b) (chipTime p) _ (record { on = λ n m. rw (not-yet n (chipTime p) m); quiet = λ n m f. rw (not-yet n (chipTime p) m); rates = λ n. refl }) k g (omega arith) fs t e
   quiet-time (rests s b g) l x k h fs t e = let z : _≡_ {A = ℕ} 0 1 = cc in absurd (omega arith)
-  quiet-time (programsIn a w pg s b g) l x k h fs t e =
+  quiet-time (programsIn d pg s b g) l x k h fs t e =
       let i : programTime p - pg ≡ l = cc in
-      counted (λ n. programsIn a w n s b g) (programTime p) _ (record { on = λ n m. rw (not-yet n (programTime p) m); quiet = λ n m f. rw (not-yet n (programTime p) m); rates = λ n. refl }) k pg (omega arith) fs t e
+      counted (λ n. programsIn d n s b g) (programTime p) _ (record { on = λ n m. rw (not-yet n (programTime p) m); quiet = λ n m f. rw (not-yet n (programTime p) m); rates = λ n. refl }) k pg (omega arith) fs t e
 
   still-time : (d : Doing) → toGo p d ≡ never → (k : ℕ) (fs : List Fact) (t e : ℕ) → time p k (at-time d fs t e) ≡ later p k (at-time d fs t e)
   unfolding toGo later further goes comes
   still-time nothing x k fs t e = stayed nothing refl (λ f. refl) k fs t e
-  still-time (programs a w g) x k fs t e = let z : _≡_ {A = ℕ} 0 1 = cc in absurd (omega arith)
-  still-time (pauses a w g) x k fs t e = stayed (pauses a w g) refl (λ f. refl) k fs t e
+  still-time (programs d g) x k fs t e = let z : _≡_ {A = ℕ} 0 1 = cc in absurd (omega arith)
+  still-time (pauses d g) x k fs t e = stayed (pauses d g) refl (λ f. refl) k fs t e
   still-time (waits s b g) x k fs t e = let z : _≡_ {A = ℕ} 0 1 = cc in absurd (omega arith)
   still-time (erases s b g) x k fs t e = let z : _≡_ {A = ℕ} 0 1 = cc in absurd (omega arith)
   still-time (wipes s b g) x k fs t e = let z : _≡_ {A = ℕ} 0 1 = cc in absurd (omega arith)
   still-time (rests s b g) x k fs t e = stayed (rests s b g) refl (λ f. refl) k fs t e
-  still-time (programsIn a w pg s b g) x k fs t e = let z : _≡_ {A = ℕ} 0 1 = cc in absurd (omega arith)
+  still-time (programsIn d pg s b g) x k fs t e = let z : _≡_ {A = ℕ} 0 1 = cc in absurd (omega arith)
 
 -- ---- leaps
 

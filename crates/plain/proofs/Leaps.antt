@@ -1,34 +1,23 @@
 -- Waits in leaps, from happening to happening: the same as microsecond by microsecond, and quick to compute.
-use Prim.Native.Nat.{ℕ, zero, suc, _+_, _-_, _*_, _<_, _≤_}
+use Prim.Native.Nat.{ℕ, zero, suc, _+_, _-_, _<_, _≤_}
 use mathlib.Core.Path.{_≡_, refl, sym, ap, _∙_}
-use mathlib.Core.Bool.{Bool, true, false, _&&_, not}
-use mathlib.Core.List.{List, [], _∷_}
+use mathlib.Core.Bool.{Bool, true, false}
 use native.Mathlib.Omega.{arith}
-use lib.Dec.{ltb, leb, eqb}
-use lib.ListN.{length}
+use lib.Dec.{ltb}
 use borrow.Author.Tests.{ltb-true, ltb-false}
 use Rattle.geometry.specs.declared.Part.{Part}
-use Rattle.geometry.specs.Parts.{wordCount}
-use Rattle.protection.specs.Protection.{strayBits}
 use Rattle.meter.specs.declared.Meter.{Meter}
-use Rattle.plain.specs.declared.Refusal.the-variants.{State, Cells, Clock}
+use Rattle.plain.specs.declared.Erase.{Erase}
 use Rattle.plain.specs.declared.Inside.{Inside}
 use Rattle.plain.specs.declared.Inside.the-variants.{Nothing, Runs}
 use Rattle.plain.specs.declared.Operation.{Operation}
 use Rattle.plain.specs.declared.Operation.the-variants.{Idle, Programming, ProgramSuspended, Window, Erasing, EraseSuspended, ChipErasing}
-use Rattle.plain.specs.declared.Erase.{Erase}
-use Rattle.plain.specs.declared.Device.{Device}
-use Rattle.plain.specs.Choice.{if_then_else_}
-use Rattle.plain.specs.Events.{Event, read, write, wait, cut}
-use Rattle.plain.specs.Figures.{clockLimit}
+use Rattle.plain.specs.Lent.{Lent}
+use Rattle.plain.specs.Operations.{runningOf, runningInside}
 use Rattle.plain.specs.Record.{programLeft, eraseLeft, suspended}
-use Rattle.plain.specs.Sound.{meterSound, operationSound, commandSound, sound}
-use Rattle.plain.specs.Time.{Moment, moment, current, insideCurrent, tick, ticks, someEndProtected}
-use Rattle.plain.specs.Machine.{Outcome, Ran, refused, checked, waited, readEvent, writeEvent, waitEvent, cutEvent, step, run}
-use Rattle.plain.proofs.Tools.{by-cases, both-left, both-right}
+use Rattle.plain.specs.Time.{Moment, moment, current, tick, ticks}
 use Rattle.plain.proofs.Ticks.{ticks-add, drawn, still, drift}
-use Rattle.plain.proofs.Running.{idle-still, program-still, erase-still, program-running, inside-running, window-running, erase-running}
-use Rattle.plain.proofs.Ends.{sound-safe, none-ends}
+use Rattle.plain.proofs.InTime.{idle-still, program-still, erase-still, program-running, inside-running, window-running, erase-running}
 
 -- ---- when the next thing happens
 
@@ -65,16 +54,16 @@ less (ChipErasing e) k = ChipErasing (eraseLeft e (e .left - k))
 
 -- k microseconds in which nothing happens
 unfoldable pub drifted : Part → ℕ → Moment → Moment
-drifted p k m = moment (drawn (m .meter) k (current p (m .operation))) (less (m .operation) k) (m .cells)
+drifted p k m = moment (drawn (m .meter) k (current p (runningOf (m .operation)))) (less (m .operation) k) (m .lent)
 
-inside-never : (p : Part) (e : Erase) (i : Inside) → insideDue i ≡ never → (n : ℕ) (m : Meter) (cells : List ℕ)
+inside-never : (p : Part) (e : Erase) (i : Inside) → insideDue i ≡ never → (n : ℕ) (m : Meter) (cells : Lent)
     → ticks p n (moment m (EraseSuspended (suspended e i)) cells) ≡ drifted p n (moment m (EraseSuspended (suspended e i)) cells)
-unfolding insideDue drifted current insideCurrent less insideLess
+unfolding insideDue drifted runningOf runningInside current less insideLess
 inside-never p e Nothing d n m cells = still p (EraseSuspended (suspended e Nothing)) _ (erase-still p e) n m cells
 inside-never p e (Runs q) d n m cells = let z : _≡_ {A = ℕ} 0 1 = cc in absurd (omega arith)
 
-drift-never : (p : Part) (o : Operation) → dueOf o ≡ never → (n : ℕ) (m : Meter) (cells : List ℕ) → ticks p n (moment m o cells) ≡ drifted p n (moment m o cells)
-unfolding dueOf drifted current less
+drift-never : (p : Part) (o : Operation) → dueOf o ≡ never → (n : ℕ) (m : Meter) (cells : Lent) → ticks p n (moment m o cells) ≡ drifted p n (moment m o cells)
+unfolding dueOf drifted runningOf current less
 drift-never p Idle d n m cells = still p Idle _ (idle-still p) n m cells
 drift-never p (Programming q) d n m cells = let z : _≡_ {A = ℕ} 0 1 = cc in absurd (omega arith)
 drift-never p (ProgramSuspended q) d n m cells = still p (ProgramSuspended q) _ (program-still p q) n m cells
@@ -83,17 +72,17 @@ drift-never p (Erasing e) d n m cells = let z : _≡_ {A = ℕ} 0 1 = cc in absu
 drift-never p (EraseSuspended s) d n m cells = inside-never p (s .erase) (s .inside) d n m cells
 drift-never p (ChipErasing e) d n m cells = let z : _≡_ {A = ℕ} 0 1 = cc in absurd (omega arith)
 
-inside-due : (p : Part) (e : Erase) (i : Inside) (l : ℕ) → insideDue i ≡ due l → (n : ℕ) → n < l → (m : Meter) (cells : List ℕ)
+inside-due : (p : Part) (e : Erase) (i : Inside) (l : ℕ) → insideDue i ≡ due l → (n : ℕ) → n < l → (m : Meter) (cells : Lent)
     → ticks p n (moment m (EraseSuspended (suspended e i)) cells) ≡ drifted p n (moment m (EraseSuspended (suspended e i)) cells)
-unfolding insideDue drifted current insideCurrent less insideLess
+unfolding insideDue drifted runningOf runningInside current less insideLess
 inside-due p e Nothing l d n h m cells = let z : _≡_ {A = ℕ} 0 1 = cc in absurd (omega arith)
 inside-due p e (Runs q) l d n h m cells =
     let i : q .left ≡ l = cc in
     drift p _ _ _ _ (inside-running p e q) n (q .left) m cells (omega arith)
 
-drift-due : (p : Part) (o : Operation) (l : ℕ) → dueOf o ≡ due l → (n : ℕ) → n < l → (m : Meter) (cells : List ℕ)
+drift-due : (p : Part) (o : Operation) (l : ℕ) → dueOf o ≡ due l → (n : ℕ) → n < l → (m : Meter) (cells : Lent)
     → ticks p n (moment m o cells) ≡ drifted p n (moment m o cells)
-unfolding dueOf drifted current less
+unfolding dueOf drifted runningOf current less
 drift-due p Idle l d n h m cells = let z : _≡_ {A = ℕ} 0 1 = cc in absurd (omega arith)
 drift-due p (Programming q) l d n h m cells =
     let i : q .left ≡ l = cc in
@@ -131,7 +120,7 @@ leap-ticks p (suc fuel) n m = go (dueOf (m .operation)) refl (leap-ticks p fuel)
     next : (l : ℕ) → dueOf (m .operation) ≡ due l → l ≤ n → 0 < l → ticks p (n - l) (tick p (drifted p (l - 1) m)) ≡ ticks p n m
     next l d h k =
         let one : n ≡ (l - 1) + suc (n - l) = omega arith in
-        ap (λ (x : Moment). ticks p (n - l) (tick p x)) (sym (drift-due p (m .operation) l d (l - 1) (omega arith) (m .meter) (m .cells)))
+        ap (λ (x : Moment). ticks p (n - l) (tick p x)) (sym (drift-due p (m .operation) l d (l - 1) (omega arith) (m .meter) (m .lent)))
         ∙ sym (ticks-add p (l - 1) (suc (n - l)) m)
         ∙ ap (λ (k : ℕ). ticks p k m) (sym one)
 
@@ -143,11 +132,11 @@ leap-ticks p (suc fuel) n m = go (dueOf (m .operation)) refl (leap-ticks p fuel)
             | false ↦ elim (ltb 0 l) [ true ↦ leap p fuel (n - l) (tick p (drifted p (l - 1) m)) | false ↦ ticks p n m ]
           ]
         ]) ≡ ticks p n m
-    go never e rest = sym (drift-never p (m .operation) e n (m .meter) (m .cells))
+    go never e rest = sym (drift-never p (m .operation) e n (m .meter) (m .lent))
     go (due l) e rest = at (ltb n l) refl (ltb 0 l) refl
       where
         at : (b : Bool) → ltb n l ≡ b → (c : Bool) → ltb 0 l ≡ c
             → (elim b [ true ↦ drifted p n m | false ↦ elim c [ true ↦ leap p fuel (n - l) (tick p (drifted p (l - 1) m)) | false ↦ ticks p n m ] ]) ≡ ticks p n m
-        at true f c g = sym (drift-due p (m .operation) l e n (ltb-true n l f) (m .meter) (m .cells))
+        at true f c g = sym (drift-due p (m .operation) l e n (ltb-true n l f) (m .meter) (m .lent))
         at false f true g = rest (n - l) (tick p (drifted p (l - 1) m)) ∙ next l e (ltb-false n l f) (ltb-true 0 l g)
         at false f false g = refl

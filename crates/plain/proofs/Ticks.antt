@@ -1,14 +1,15 @@
 -- Microseconds in a row: what n of them come to where nothing happens, and where something ends.
 use Prim.Native.Nat.{ℕ, zero, suc, _+_, _-_, _*_, _<_, _≤_}
 use mathlib.Core.Path.{_≡_, refl, sym, ap, _∙_}
-use mathlib.Core.List.{List}
 use native.Mathlib.Nat.{zero-add, suc-add, suc-mul}
 use native.Mathlib.Omega.{arith}
 use Rattle.geometry.specs.declared.Part.{Part}
 use Rattle.meter.specs.declared.Meter.{Meter}
 use Rattle.meter.specs.Meter.{metered}
 use Rattle.plain.specs.declared.Operation.{Operation}
-use Rattle.plain.specs.Time.{Moment, moment, current, operationTick, cellsTick, tick, ticks}
+use Rattle.plain.specs.Lent.{Lent}
+use Rattle.plain.specs.Operations.{runningOf}
+use Rattle.plain.specs.Time.{Moment, moment, current, operationTick, lentTick, tick, ticks}
 
 -- a wait of a + b is a wait of a and then one of b
 pub ticks-add : (p : Part) (a b : ℕ) (m : Moment) → ticks p (a + b) m ≡ ticks p b (ticks p a m)
@@ -42,11 +43,11 @@ drawn-more m n rate = λ i. record { clock = time i; charge = more i }
 
 -- an operation that time leaves as it is
 pub record Still (p : Part) (o : Operation) (rate : ℕ) : Type 0 where
-  pub draws : current p o ≡ rate
+  pub draws : current p (runningOf o) ≡ rate
   pub stays : operationTick p o ≡ o
-  pub keeps : (cells : List ℕ) → cellsTick p o cells ≡ cells
+  pub keeps : (l : Lent) → lentTick p (runningOf o) l ≡ l
 
-pub still : (p : Part) (o : Operation) (rate : ℕ) → Still p o rate → (n : ℕ) (m : Meter) (cells : List ℕ)
+pub still : (p : Part) (o : Operation) (rate : ℕ) → Still p o rate → (n : ℕ) (m : Meter) (cells : Lent)
     → ticks p n (moment m o cells) ≡ moment (drawn m n rate) o cells
 unfolding ticks tick
 still p o rate s zero m cells = λ i. moment (drawn-none m rate i) o cells
@@ -55,25 +56,25 @@ still p o rate s (suc n) m cells =
 
 -- ---- something runs out
 
--- an operation told by its time left: each microsecond takes one away, and the last one makes `next` of it, and `done` of the cells
-pub record Running (p : Part) (at : ℕ → Operation) (rate : ℕ) (next : Operation) (done : List ℕ → List ℕ) : Type 0 where
-  pub draws : (l : ℕ) → current p (at l) ≡ rate
-  pub steps : (l : ℕ) → 1 < l → operationTick p (at l) ≡ at (l - 1)
-  pub keeps : (l : ℕ) → 1 < l → (cells : List ℕ) → cellsTick p (at l) cells ≡ cells
+-- an operation told by its time left: each microsecond takes one away, and the last one makes `next` of it, and `done` of what is lent
+pub record Running (p : Part) (at : ℕ → Operation) (rate : ℕ) (next : Operation) (done : Lent → Lent) : Type 0 where
+  pub draws : (n : ℕ) → current p (runningOf (at n)) ≡ rate
+  pub steps : (n : ℕ) → 1 < n → operationTick p (at n) ≡ at (n - 1)
+  pub keeps : (n : ℕ) → 1 < n → (l : Lent) → lentTick p (runningOf (at n)) l ≡ l
   pub ends : operationTick p (at 1) ≡ next
-  pub finishes : (cells : List ℕ) → cellsTick p (at 1) cells ≡ done cells
+  pub finishes : (l : Lent) → lentTick p (runningOf (at 1)) l ≡ done l
 
-module _ (p : Part) (at : ℕ → Operation) (rate : ℕ) (next : Operation) (done : List ℕ → List ℕ) (r : Running p at rate next done) where
-  one-step : (l : ℕ) (m : Meter) (cells : List ℕ) → 1 < l → tick p (moment m (at l) cells) ≡ moment (metered m 1 rate) (at (l - 1)) cells
+module _ (p : Part) (at : ℕ → Operation) (rate : ℕ) (next : Operation) (done : Lent → Lent) (r : Running p at rate next done) where
+  one-step : (l : ℕ) (m : Meter) (cells : Lent) → 1 < l → tick p (moment m (at l) cells) ≡ moment (metered m 1 rate) (at (l - 1)) cells
   unfolding tick
   one-step l m cells h = rw (r .draws l, r .steps l h, r .keeps l h cells)
 
-  last-step : (m : Meter) (cells : List ℕ) → tick p (moment m (at 1) cells) ≡ moment (metered m 1 rate) next (done cells)
+  last-step : (m : Meter) (cells : Lent) → tick p (moment m (at 1) cells) ≡ moment (metered m 1 rate) next (done cells)
   unfolding tick
   last-step m cells = rw (r .draws 1, r .ends, r .finishes cells)
 
   -- before the end
-  pub drift : (n l : ℕ) (m : Meter) (cells : List ℕ) → n < l → ticks p n (moment m (at l) cells) ≡ moment (drawn m n rate) (at (l - n)) cells
+  pub drift : (n l : ℕ) (m : Meter) (cells : Lent) → n < l → ticks p n (moment m (at l) cells) ≡ moment (drawn m n rate) (at (l - n)) cells
   unfolding ticks
   drift zero l m cells h = λ i. moment (drawn-none m rate i) (at (same i)) cells
     where
@@ -86,7 +87,7 @@ module _ (p : Part) (at : ℕ → Operation) (rate : ℕ) (next : Operation) (do
       ∙ (λ i. moment (drawn-more m n rate i) (at (fewer i)) cells)
 
   -- at the end
-  pub lands : (l : ℕ) (m : Meter) (cells : List ℕ) → 1 ≤ l → ticks p l (moment m (at l) cells) ≡ moment (drawn m l rate) next (done cells)
+  pub lands : (l : ℕ) (m : Meter) (cells : Lent) → 1 ≤ l → ticks p l (moment m (at l) cells) ≡ moment (drawn m l rate) next (done cells)
   unfolding ticks
   lands zero m cells h = absurd (omega arith)
   lands (suc zero) m cells h =
@@ -101,7 +102,7 @@ module _ (p : Part) (at : ℕ → Operation) (rate : ℕ) (next : Operation) (do
       ∙ (λ i. moment (drawn-more m (suc l) rate i) next (done cells))
 
   -- past the end: what is left of the wait is waited after it
-  pub passes : (n l : ℕ) (m : Meter) (cells : List ℕ) → 1 ≤ l → l ≤ n
+  pub passes : (n l : ℕ) (m : Meter) (cells : Lent) → 1 ≤ l → l ≤ n
       → ticks p n (moment m (at l) cells) ≡ ticks p (n - l) (moment (drawn m l rate) next (done cells))
   passes n l m cells h g =
       let whole : n ≡ l + (n - l) = omega arith in

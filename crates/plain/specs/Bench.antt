@@ -1,11 +1,12 @@
 -- Document 01, "Bench table": the rows that are proved together, on the small part, fresh unless said.
 use Prim.Native.Nat.{ℕ}
 use mathlib.Core.List.{List, [], _∷_, _++_, map}
-use lib.ListN.{getD, set, replicate}
+use lib.ListN.{set, replicate}
 use Rattle.geometry.specs.declared.Part.the-variants.{Small}
 use Rattle.geometry.specs.Asked.{refusalAsked, blockAsked}
 use Rattle.plain.specs.Refusals.{number}
 use Rattle.plain.specs.Events.{Event, read, write, wait, cut, Turn}
+use Rattle.plain.specs.Lent.{lent, cellAt}
 use Rattle.plain.specs.Record.{fresh}
 use Rattle.plain.specs.Machine.{Ran, run}
 
@@ -43,12 +44,12 @@ abbrev pub said : Turn → Said
 said t = record { refusal = number (t .refusal); word = t .word }
 
 abbrev pub after : Ran → List ℕ → Finding
-after r addresses = finding (map said (r .turns)) (map (λ a. getD (r .cells) a 0) addresses) (r .device .meter .clock) (r .device .meter .charge)
+after r addresses = finding (map said (r .turns)) (map (cellAt (r .lent)) addresses) (r .device .meter .clock) (r .device .meter .charge)
 
 -- what the plain machine makes of a row
 abbrev pub found : Row → Finding
 found (lookups addresses f) = finding (map (λ a. record { refusal = refusalAsked Small a; word = blockAsked Small a }) addresses) [] 0 0
-found (runs cells events addresses f) = after (run Small fresh cells events) addresses
+found (runs cells events addresses f) = after (run Small fresh (lent cells) events) addresses
 
 -- ---- command sequences
 

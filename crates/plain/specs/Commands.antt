@@ -1,22 +1,27 @@
 -- What a write does (document 01, "Command cycles", and the window and suspension of "Time, charge and the cells").
-use Prim.Native.Nat.{ℕ, _%_, min}
+use Prim.Native.Nat.{ℕ, min}
 use mathlib.Core.Bool.{Bool, true, false, _&&_, not}
 use lib.Dec.{eqb}
-use Rattle.blocks.specs.declared.Blocks.{Blocks}
 use Rattle.blocks.specs.Blocks.{has, emptyOf, withOf, firstFrom}
 use Rattle.geometry.specs.declared.Part.{Part}
 use Rattle.geometry.specs.Parts.{blockOf, bankOf, bankOfBlock}
 use Rattle.protection.specs.declared.Protection.{Protection}
 use Rattle.protection.specs.Protection.{protected, unprotected, allProtected, dybSet, dybCleared, ppbSet, ppbsCleared, locked}
 use Rattle.plain.specs.declared.Refusal.the-variants.{Done, Busy, Sequence, Bank, Protected, Suspended, Locked}
+use Rattle.plain.specs.declared.Written.{Written}
 use Rattle.plain.specs.declared.Program.{Program}
 use Rattle.plain.specs.declared.Erase.{Erase}
 use Rattle.plain.specs.declared.Inside.{Inside}
 use Rattle.plain.specs.declared.Inside.the-variants.{Nothing, Runs}
 use Rattle.plain.specs.declared.Operation.{Operation}
 use Rattle.plain.specs.declared.Operation.the-variants.{Idle, Programming, ProgramSuspended, Window, Erasing, EraseSuspended, ChipErasing}
+use Rattle.plain.specs.declared.Suspension.{Suspension}
+use Rattle.plain.specs.declared.Suspension.the-variants.{Unsuspended, OfProgram, OfErase}
 use Rattle.plain.specs.declared.Command.{Command}
-use Rattle.plain.specs.declared.Command.the-variants.{Ground, Unlock, Unlocked, ProgramData, EraseSetup, EraseUnlock, EraseUnlocked, DybData, PpbSetup, PpbSetting, PpbClearing, Identity, DybReading}
+use Rattle.plain.specs.declared.Command.the-variants.{Ground, Entering, Reads}
+use Rattle.plain.specs.declared.Cycle.{Cycle}
+use Rattle.plain.specs.declared.Cycle.the-variants.{Unlock, Unlocked, ProgramData, EraseSetup, EraseUnlock, EraseUnlocked, DybData, PpbSetup, PpbSetting, PpbClearing}
+use Rattle.plain.specs.declared.Reading.the-variants.{Identity, Dybs}
 use Rattle.plain.specs.declared.Effect.{Effect}
 use Rattle.plain.specs.declared.Effect.the-variants.{Goes, Starts, Protects, Falls, Stays, Drops}
 use Rattle.plain.specs.declared.Device.{Device}
@@ -24,59 +29,38 @@ use Rattle.plain.specs.declared.Answer.{Answer}
 use Rattle.plain.specs.Choice.{if_then_else_}
 use Rattle.plain.specs.Figures.{programTime, windowTime, eraseTime, chipTime}
 use Rattle.plain.specs.Record.{device, program, erase, suspended, eraseLeft, answer}
+use Rattle.plain.specs.Programs.{writing, blockWritten}
 use Rattle.plain.specs.Cycles.{isAt, is, firstUnlock, secondUnlock, isDyb}
 
--- ---- what an operation means for commands
+-- ---- suspension and commands
 
--- is a program suspended?
-unfoldable pub programRests : Operation → Bool
-programRests Idle = false
-programRests (Programming q) = false
-programRests (ProgramSuspended q) = true
-programRests (Window e) = false
-programRests (Erasing e) = false
-programRests (EraseSuspended s) = false
-programRests (ChipErasing e) = false
+unfoldable pub isSuspended : Suspension → Bool
+isSuspended Unsuspended = false
+isSuspended (OfProgram q) = true
+isSuspended (OfErase e) = true
 
--- is anything suspended?
-unfoldable pub isSuspended : Operation → Bool
-isSuspended Idle = false
-isSuspended (Programming q) = false
-isSuspended (ProgramSuspended q) = true
-isSuspended (Window e) = false
-isSuspended (Erasing e) = false
-isSuspended (EraseSuspended s) = true
-isSuspended (ChipErasing e) = false
+unfoldable pub programIsSuspended : Suspension → Bool
+programIsSuspended Unsuspended = false
+programIsSuspended (OfProgram q) = true
+programIsSuspended (OfErase e) = false
 
 -- "In suspension 30H at any address resumes from ground"
-unfoldable pub resumed : Operation → Operation
-resumed Idle = Idle
-resumed (Programming q) = Programming q
-resumed (ProgramSuspended q) = Programming q
-resumed (Window e) = Window e
-resumed (Erasing e) = Erasing e
-resumed (EraseSuspended s) = Erasing (s .erase)
-resumed (ChipErasing e) = ChipErasing e
+unfoldable pub resumes : Suspension → Effect
+resumes Unsuspended = Falls Sequence
+resumes (OfProgram q) = Starts (Programming q)
+resumes (OfErase e) = Starts (Erasing e)
 
--- is the block on the list of a suspended erase?
-unfoldable pub listedIn : Operation → ℕ → Bool
-listedIn Idle b = false
-listedIn (Programming q) b = false
-listedIn (ProgramSuspended q) b = false
-listedIn (Window e) b = false
-listedIn (Erasing e) b = false
-listedIn (EraseSuspended s) b = has (s .erase .list) b
-listedIn (ChipErasing e) b = false
+-- "DQ6 and DQ2 start at 0 with each operation"
+abbrev pub started : Part → Written → Program
+started p d = program d (programTime p) false
 
--- "a program works inside a suspended erase"
-unfoldable pub withProgram : Operation → Program → Operation
-withProgram Idle q = Programming q
-withProgram (Programming o) q = Programming q
-withProgram (ProgramSuspended o) q = Programming q
-withProgram (Window e) q = Programming q
-withProgram (Erasing e) q = Programming q
-withProgram (EraseSuspended s) q = EraseSuspended (suspended (s .erase) (Runs q))
-withProgram (ChipErasing e) q = Programming q
+-- "a program works inside a suspended erase, in a block off its list"; "SUSPENDED comes .. at the data write of a program into a
+-- listed block"
+unfoldable pub begins : Part → Suspension → Written → Effect
+begins p Unsuspended d = Starts (Programming (started p d))
+begins p (OfProgram q) d = Falls Suspended
+begins p (OfErase e) d =
+    if has (e .list) (blockWritten p d) then Falls Suspended else Starts (EraseSuspended (suspended e (Runs (started p d))))
 
 -- ---- the register, state by state: the write of a command's next cycle while nothing runs
 
@@ -85,54 +69,52 @@ abbrev pub orReset : ℕ → Effect → Effect
 orReset w else′ = if is w 0xF0 then Goes Ground else else′
 
 -- "10 SUSPENDED: a command not allowed in suspension"
-abbrev pub unless : Bool → Effect → Effect
-unless rests effect = if rests then Falls Suspended else effect
+abbrev pub unless : (suspended : Bool) → Effect → Effect
+unless suspended effect = if suspended then Falls Suspended else effect
 
 -- ground: the first unlock write; 30H in suspension
-unfoldable pub atGround : Operation → (a w : ℕ) → Effect
-atGround o a w =
-    if firstUnlock a w then Goes Unlock
-    else orReset w (if is w 0x30 && isSuspended o then Starts (resumed o) else Falls Sequence)
+unfoldable pub atGround : Suspension → (a w : ℕ) → Effect
+atGround s a w =
+    if firstUnlock a w then Goes (Entering Unlock)
+    else orReset w (if is w 0x30 then resumes s else Falls Sequence)
 
 -- 555H/AAH: the second unlock write
 unfoldable pub afterUnlock : (a w : ℕ) → Effect
-afterUnlock a w = if secondUnlock a w then Goes Unlocked else orReset w (Falls Sequence)
+afterUnlock a w = if secondUnlock a w then Goes (Entering Unlocked) else orReset w (Falls Sequence)
 
 -- both unlock writes: the third write at 555H. "SUSPENDED comes at the third write for 80H, 48H, 78H, 60H, for A0H in a
 -- suspended program"
-unfoldable pub afterUnlocked : Part → Protection → Operation → (a w : ℕ) → Effect
-afterUnlocked p bits o a w =
+unfoldable pub afterUnlocked : Part → Protection → Suspension → (a w : ℕ) → Effect
+afterUnlocked p bits s a w =
     orReset w
     (if not (isAt a 0x555) then Falls Sequence
-    else if is w 0xA0 then unless (programRests o) (Goes ProgramData)
-    else if is w 0x80 then unless (isSuspended o) (Goes EraseSetup)
-    else if is w 0x90 then Goes (Identity (bankOf p a))
-    else if is w 0x58 then Goes DybReading
-    else if is w 0x48 then unless (isSuspended o) (Goes DybData)
-    else if is w 0x78 then unless (isSuspended o) (Protects (locked bits))
-    else if is w 0x60 then unless (isSuspended o) (Goes PpbSetup)
+    else if is w 0xA0 then unless (programIsSuspended s) (Goes (Entering ProgramData))
+    else if is w 0x80 then unless (isSuspended s) (Goes (Entering EraseSetup))
+    else if is w 0x90 then Goes (Reads (Identity (bankOf p a)))
+    else if is w 0x58 then Goes (Reads Dybs)
+    else if is w 0x48 then unless (isSuspended s) (Goes (Entering DybData))
+    else if is w 0x78 then unless (isSuspended s) (Protects (locked bits))
+    else if is w 0x60 then unless (isSuspended s) (Goes (Entering PpbSetup))
     else Falls Sequence)
 
--- A0H: "the next write is address and all 16 data bits of a program"; "SUSPENDED comes .. at the data write of a program into
--- a listed block"
-unfoldable pub afterA0 : Part → Protection → Operation → (a w : ℕ) → Effect
-afterA0 p bits o a w =
-    if protected bits (blockOf p a) then Falls Protected
-    else if listedIn o (blockOf p a) then Falls Suspended
-    else Starts (withProgram o (program a w (programTime p) false))
+-- A0H: "the next write is address and all 16 data bits of a program"
+unfoldable pub afterA0 : Part → Protection → Suspension → (a w : ℕ) → Effect
+afterA0 p bits s a w =
+    if protected bits (blockWritten p (writing a w)) then Falls Protected
+    else begins p s (writing a w)
 
 -- 80H: "both unlock writes again"
 unfoldable pub after80 : (a w : ℕ) → Effect
-after80 a w = if firstUnlock a w then Goes EraseUnlock else orReset w (Falls Sequence)
+after80 a w = if firstUnlock a w then Goes (Entering EraseUnlock) else orReset w (Falls Sequence)
 
 unfoldable pub after80Unlock : (a w : ℕ) → Effect
-after80Unlock a w = if secondUnlock a w then Goes EraseUnlocked else orReset w (Falls Sequence)
+after80Unlock a w = if secondUnlock a w then Goes (Entering EraseUnlocked) else orReset w (Falls Sequence)
 
 -- "its list is every unprotected block, in rising number"; "9 PROTECTED: .. for a chip erase every block is"
 abbrev pub chipErase : Part → Protection → Effect
 chipErase p bits =
-    if allProtected bits then Falls Protected
-    else Starts (ChipErasing (erase (unprotected bits) (firstFrom (unprotected bits) 0) (chipTime p) false false))
+    if allProtected p bits then Falls Protected
+    else Starts (ChipErasing (erase (unprotected p bits) (firstFrom (unprotected p bits) 0) (chipTime p) false false))
 
 -- "A block erase first has a 50 µs window"
 abbrev pub blockErase : Part → Protection → (b : ℕ) → Effect
@@ -159,8 +141,8 @@ after48 p bits a w =
 unfoldable pub after60 : Part → (a w : ℕ) → Effect
 after60 p a w =
     orReset w
-    (if is w 0x68 then Goes (PpbSetting (blockOf p a))
-    else if is w 0x60 then Goes PpbClearing
+    (if is w 0x68 then Goes (Entering (PpbSetting (blockOf p a)))
+    else if is w 0x60 then Goes (Entering PpbClearing)
     else Falls Sequence)
 
 -- "The effect comes with the second of the two, at once; LOCKED is judged there."
@@ -178,27 +160,30 @@ after6060 bits w = orReset w (if is w 0x40 then unlessLocked bits (ppbsCleared b
 unfoldable pub afterReading : (w : ℕ) → Effect
 afterReading w = orReset w (Falls Sequence)
 
-unfoldable pub entered : Part → Protection → Operation → Command → (a w : ℕ) → Effect
-entered p bits o Ground a w = atGround o a w
-entered p bits o Unlock a w = afterUnlock a w
-entered p bits o Unlocked a w = afterUnlocked p bits o a w
-entered p bits o ProgramData a w = afterA0 p bits o a w
-entered p bits o EraseSetup a w = after80 a w
-entered p bits o EraseUnlock a w = after80Unlock a w
-entered p bits o EraseUnlocked a w = after80Unlocked p bits a w
-entered p bits o DybData a w = after48 p bits a w
-entered p bits o PpbSetup a w = after60 p a w
-entered p bits o (PpbSetting b) a w = after68 p bits b a w
-entered p bits o PpbClearing a w = after6060 bits w
-entered p bits o (Identity bank) a w = afterReading w
-entered p bits o DybReading a w = afterReading w
+-- the next write of a command that is half entered
+unfoldable pub continued : Part → Protection → Suspension → Cycle → (a w : ℕ) → Effect
+continued p bits s Unlock a w = afterUnlock a w
+continued p bits s Unlocked a w = afterUnlocked p bits s a w
+continued p bits s ProgramData a w = afterA0 p bits s a w
+continued p bits s EraseSetup a w = after80 a w
+continued p bits s EraseUnlock a w = after80Unlock a w
+continued p bits s EraseUnlocked a w = after80Unlocked p bits a w
+continued p bits s DybData a w = after48 p bits a w
+continued p bits s PpbSetup a w = after60 p a w
+continued p bits s (PpbSetting b) a w = after68 p bits b a w
+continued p bits s PpbClearing a w = after6060 bits w
+
+unfoldable pub entered : Part → Protection → Suspension → Command → (a w : ℕ) → Effect
+entered p bits s Ground a w = atGround s a w
+entered p bits s (Entering c) a w = continued p bits s c a w
+entered p bits s (Reads r) a w = afterReading w
 
 -- ---- while an operation runs
 
 -- "30H in the same bank adds a block (one already listed is taken, too) and starts the 50 µs again": "8 before 9"
 unfoldable pub addBlock : Part → Protection → Erase → (a : ℕ) → Effect
 addBlock p bits e a =
-    if not (eqb (bankOf p a) (bankOfBlock (e .hand))) then Stays Bank
+    if not (eqb (bankOf p a) (bankOfBlock p (e .hand))) then Stays Bank
     else if protected bits (blockOf p a) then Stays Protected
     else Starts (Window (erase (withOf (e .list) (blockOf p a)) (min (e .hand) (blockOf p a)) (windowTime p) (e .dq6) (e .dq2)))
 
@@ -219,12 +204,12 @@ inSuspendedErase Nothing effect = effect
 inSuspendedErase (Runs q) effect = Stays Busy
 
 unfoldable pub written : Part → Protection → Operation → Command → (a w : ℕ) → Effect
-written p bits Idle c a w = entered p bits Idle c a w
+written p bits Idle c a w = entered p bits Unsuspended c a w
 written p bits (Programming q) c a w = orBusy w (ProgramSuspended q)
-written p bits (ProgramSuspended q) c a w = entered p bits (ProgramSuspended q) c a w
+written p bits (ProgramSuspended q) c a w = entered p bits (OfProgram q) c a w
 written p bits (Window e) c a w = inWindow p bits e a w
 written p bits (Erasing e) c a w = orBusy w (EraseSuspended (suspended e Nothing))
-written p bits (EraseSuspended s) c a w = inSuspendedErase (s .inside) (entered p bits (EraseSuspended s) c a w)
+written p bits (EraseSuspended s) c a w = inSuspendedErase (s .inside) (entered p bits (OfErase (s .erase)) c a w)
 written p bits (ChipErasing e) c a w = Stays Busy
 
 -- ---- the record afterwards (document 01, "Refusals by number", the column "afterwards"); every write gives the word 0

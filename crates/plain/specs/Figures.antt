@@ -1,31 +1,31 @@
--- The figures of document 01: times in microseconds, currents in picocoulombs a microsecond, the clock's limit.
+-- The figures of document 01, by part: times in microseconds, currents in picocoulombs a microsecond, the clock's limit.
 use Prim.Native.Nat.{ℕ}
 use Rattle.geometry.specs.declared.Part.{Part}
 
 -- "A program takes 6 µs"
-abbrev pub programTime : Part → ℕ
+unfoldable pub programTime : Part → ℕ
 programTime p = 6
 
 -- "A block erase first has a 50 µs window"
-abbrev pub windowTime : Part → ℕ
+unfoldable pub windowTime : Part → ℕ
 windowTime p = 50
 
 -- "listed blocks are erased in rising number, 700,000 µs each"
-abbrev pub eraseTime : Part → ℕ
+unfoldable pub eraseTime : Part → ℕ
 eraseTime p = 700000
 
 -- "Chip erase has no window; .. 500,000 µs each"
-abbrev pub chipTime : Part → ℕ
+unfoldable pub chipTime : Part → ℕ
 chipTime p = 500000
 
 -- "Running programs and erases draw 17,000 pC per µs"
-abbrev pub runningCurrent : Part → ℕ
+unfoldable pub runningCurrent : Part → ℕ
 runningCurrent p = 17000
 
 -- "Every other µs, window and suspension included, draws 15 pC"
-abbrev pub restingCurrent : Part → ℕ
-restingCurrent p = 15
+unfoldable pub standbyCurrent : Part → ℕ
+standbyCurrent p = 15
 
 -- "4 CLOCK: clock + d exceeds 100,000,000,000,000"
-abbrev pub clockLimit : Part → ℕ
+unfoldable pub clockLimit : Part → ℕ
 clockLimit p = 100000000000000

@@ -1,41 +1,48 @@
 -- The history of a run, told from its events and their answers alone: nothing here names a record, a soundness or the cells.
 -- It counts up the time in which an operation made progress, and yields what has come to pass, in order.
 use Prim.Native.Nat.{ℕ, zero, suc, _+_, _-_, _%_, min}
-use mathlib.Core.Bool.{Bool, true, false, _&&_, _||_, not}
+use mathlib.Core.Bool.{Bool, true, false}
 use mathlib.Core.List.{List, [], _∷_}
 use lib.Bits.{bitAnd, bitOr}
 use lib.Dec.{ltb, eqb}
-use lib.ListN.{getD}
+use lib.ListN.{getD, drop}
 use Rattle.blocks.specs.declared.Blocks.{Blocks}
-use Rattle.blocks.specs.Blocks.{has, setOf, emptyOf, withOf, withoutOf, firstFrom}
+use Rattle.blocks.specs.Blocks.{emptyOf, withOf, withoutOf, firstFrom}
 use Rattle.geometry.specs.declared.Part.{Part}
 use Rattle.geometry.specs.Parts.{blockCount, blockOf, bankOf, firstOf, sizeOf}
+use Rattle.protection.specs.Protection.{bits, unprotected}
 use Rattle.plain.specs.declared.Refusal.{Refusal}
 use Rattle.plain.specs.declared.Refusal.the-variants.{Done, State, Cells, Address, Clock, Debris, Busy, Sequence, Bank, Protected, Suspended, Locked, Inner}
+use Rattle.plain.specs.declared.Written.{Written}
 use Rattle.plain.specs.declared.Command.{Command}
-use Rattle.plain.specs.declared.Command.the-variants.{Ground, Unlock, Unlocked, ProgramData, EraseSetup, EraseUnlock, EraseUnlocked, DybData, PpbSetup, PpbSetting, PpbClearing, Identity, DybReading}
+use Rattle.plain.specs.declared.Command.the-variants.{Ground, Entering, Reads}
+use Rattle.plain.specs.declared.Cycle.{Cycle}
+use Rattle.plain.specs.declared.Cycle.the-variants.{Unlock, Unlocked, ProgramData, EraseSetup, EraseUnlock, EraseUnlocked, DybData, PpbSetup, PpbSetting, PpbClearing}
+use Rattle.plain.specs.declared.Reading.the-variants.{Identity, Dybs}
 use Rattle.plain.specs.Choice.{if_then_else_}
 use Rattle.plain.specs.Cycles.{is, firstUnlock}
 use Rattle.plain.specs.Events.{Event, read, write, wait, cut, Turn}
-use Rattle.plain.specs.Figures.{programTime, windowTime, eraseTime, chipTime, runningCurrent, restingCurrent}
+use Rattle.plain.specs.Figures.{programTime, windowTime, eraseTime, chipTime, runningCurrent, standbyCurrent}
+use Rattle.plain.specs.Lent.{Lent, cellAt}
+use Rattle.plain.specs.Programs.{writing, writes, datum, debrisFor}
 
 -- what has come to pass
 pub data Fact : Type 0 where
-  programDone : (at word : ℕ) → Fact
+  programDone : Written → Fact
   eraseDone : (block : ℕ) → Fact
-  programCut : (at word debris : ℕ) → Fact
+  programCut : Written → (debris : List ℕ) → Fact
   eraseCut : (block : ℕ) → (debris : List ℕ) → Fact
 
 -- what is under way: `gone` is the time in which it made progress
 pub data Doing : Type 0 where
   nothing : Doing
-  programs : (at word gone : ℕ) → Doing
-  pauses : (at word gone : ℕ) → Doing
+  programs : Written → (gone : ℕ) → Doing
+  pauses : Written → (gone : ℕ) → Doing
   waits : (list : Blocks) → (block gone : ℕ) → Doing
   erases : (list : Blocks) → (block gone : ℕ) → Doing
   wipes : (list : Blocks) → (block gone : ℕ) → Doing
   rests : (list : Blocks) → (block gone : ℕ) → Doing
-  programsIn : (at word programGone : ℕ) → (list : Blocks) → (block gone : ℕ) → Doing
+  programsIn : Written → (programGone : ℕ) → (list : Blocks) → (block gone : ℕ) → Doing
 
 -- the commands as far as they were heard, what is under way, the protection bits, the facts (the latest first), and the
 -- microseconds and picocoulombs of the accepted waits
@@ -75,39 +82,39 @@ kind Inner = unheard
 
 -- "Running programs and erases draw 17,000 pC per µs .. Every other µs .. draws 15 pC"
 unfoldable pub draws : Part → Doing → ℕ
-draws p nothing = restingCurrent p
-draws p (programs a w g) = runningCurrent p
-draws p (pauses a w g) = restingCurrent p
-draws p (waits l b g) = restingCurrent p
+draws p nothing = standbyCurrent p
+draws p (programs d g) = runningCurrent p
+draws p (pauses d g) = standbyCurrent p
+draws p (waits l b g) = standbyCurrent p
 draws p (erases l b g) = runningCurrent p
 draws p (wipes l b g) = runningCurrent p
-draws p (rests l b g) = restingCurrent p
-draws p (programsIn a w pg l b g) = runningCurrent p
+draws p (rests l b g) = standbyCurrent p
+draws p (programsIn d pg l b g) = runningCurrent p
 
 -- the next listed block in its turn, or nothing more
-abbrev pub turnsTo : (Blocks → ℕ → ℕ → Doing) → Blocks → (b : ℕ) → Doing
-turnsTo goes l b = if ltb (firstFrom l (suc b)) blockCount then goes l (firstFrom l (suc b)) 0 else nothing
+abbrev pub turnsTo : Part → (Blocks → ℕ → ℕ → Doing) → Blocks → (b : ℕ) → Doing
+turnsTo p goes l b = if ltb (firstFrom l (suc b)) (blockCount p) then goes l (firstFrom l (suc b)) 0 else nothing
 
 -- "A program is finished when the time in which it made progress .. makes its full time; an erase finishes block by block"
 unfoldable pub goes : Part → Doing → Doing
 goes p nothing = nothing
-goes p (programs a w g) = if eqb (suc g) (programTime p) then nothing else programs a w (suc g)
-goes p (pauses a w g) = pauses a w g
+goes p (programs d g) = if eqb (suc g) (programTime p) then nothing else programs d (suc g)
+goes p (pauses d g) = pauses d g
 goes p (waits l b g) = if eqb (suc g) (windowTime p) then erases l b 0 else waits l b (suc g)
-goes p (erases l b g) = if eqb (suc g) (eraseTime p) then turnsTo erases l b else erases l b (suc g)
-goes p (wipes l b g) = if eqb (suc g) (chipTime p) then turnsTo wipes l b else wipes l b (suc g)
+goes p (erases l b g) = if eqb (suc g) (eraseTime p) then turnsTo p erases l b else erases l b (suc g)
+goes p (wipes l b g) = if eqb (suc g) (chipTime p) then turnsTo p wipes l b else wipes l b (suc g)
 goes p (rests l b g) = rests l b g
-goes p (programsIn a w pg l b g) = if eqb (suc pg) (programTime p) then rests l b g else programsIn a w (suc pg) l b g
+goes p (programsIn d pg l b g) = if eqb (suc pg) (programTime p) then rests l b g else programsIn d (suc pg) l b g
 
 unfoldable pub comes : Part → Doing → List Fact → List Fact
 comes p nothing fs = fs
-comes p (programs a w g) fs = if eqb (suc g) (programTime p) then programDone a w ∷ fs else fs
-comes p (pauses a w g) fs = fs
+comes p (programs d g) fs = if eqb (suc g) (programTime p) then programDone d ∷ fs else fs
+comes p (pauses d g) fs = fs
 comes p (waits l b g) fs = fs
 comes p (erases l b g) fs = if eqb (suc g) (eraseTime p) then eraseDone b ∷ fs else fs
 comes p (wipes l b g) fs = if eqb (suc g) (chipTime p) then eraseDone b ∷ fs else fs
 comes p (rests l b g) fs = fs
-comes p (programsIn a w pg l b g) fs = if eqb (suc pg) (programTime p) then programDone a w ∷ fs else fs
+comes p (programsIn d pg l b g) fs = if eqb (suc pg) (programTime p) then programDone d ∷ fs else fs
 
 unfoldable pub microsecond : Part → Told → Told
 microsecond p h =
@@ -128,99 +135,101 @@ begins h d = telling Ground d (h .dyb) (h .ppb) (h .facts) (h .clock) (h .charge
 abbrev pub protects : Told → Blocks → Blocks → Told
 protects h y q = telling Ground (h .doing) y q (h .facts) (h .clock) (h .charge)
 
-unfoldable pub beginsProgram : Doing → (a w : ℕ) → Doing
-beginsProgram nothing a w = programs a w 0
-beginsProgram (programs x y g) a w = programs a w 0
-beginsProgram (pauses x y g) a w = programs a w 0
-beginsProgram (waits l b g) a w = programs a w 0
-beginsProgram (erases l b g) a w = programs a w 0
-beginsProgram (wipes l b g) a w = programs a w 0
-beginsProgram (rests l b g) a w = programsIn a w 0 l b g
-beginsProgram (programsIn x y pg l b g) a w = programsIn a w 0 l b g
+unfoldable pub beginsProgram : Doing → Written → Doing
+beginsProgram nothing n = programs n 0
+beginsProgram (programs d g) n = programs n 0
+beginsProgram (pauses d g) n = programs n 0
+beginsProgram (waits l b g) n = programs n 0
+beginsProgram (erases l b g) n = programs n 0
+beginsProgram (wipes l b g) n = programs n 0
+beginsProgram (rests l b g) n = programsIn n 0 l b g
+beginsProgram (programsIn d pg l b g) n = programsIn n 0 l b g
 
 unfoldable pub goesOn : Doing → Doing
 goesOn nothing = nothing
-goesOn (programs x y g) = programs x y g
-goesOn (pauses x y g) = programs x y g
+goesOn (programs d g) = programs d g
+goesOn (pauses d g) = programs d g
 goesOn (waits l b g) = waits l b g
 goesOn (erases l b g) = erases l b g
 goesOn (wipes l b g) = wipes l b g
 goesOn (rests l b g) = erases l b g
-goesOn (programsIn x y pg l b g) = erases l b g
+goesOn (programsIn d pg l b g) = erases l b g
 
--- "its list is every unprotected block"; "A block is protected if its DYB or PPB is 1"
-abbrev pub openBlocks : Told → Blocks
-openBlocks h = setOf (λ b. ltb b blockCount && not (has (h .dyb) b || has (h .ppb) b))
+-- "its list is every unprotected block", by the bits that were told of
+abbrev pub openBlocks : Part → Told → Blocks
+openBlocks p h = unprotected p (bits (h .dyb) (h .ppb) false)
 
 -- the next cycle of a command, as it was taken
-unfoldable pub hears : Part → Told → Command → (a w : ℕ) → Told
-hears p h Ground a w =
-    if firstUnlock a w then enters h Unlock
-    else if is w 0x30 then begins h (goesOn (h .doing))
+unfoldable pub hearsCycle : Part → Told → Cycle → (a w : ℕ) → Told
+hearsCycle p h Unlock a w = if is w 0xF0 then enters h Ground else enters h (Entering Unlocked)
+hearsCycle p h Unlocked a w =
+    if is w 0xA0 then enters h (Entering ProgramData)
+    else if is w 0x80 then enters h (Entering EraseSetup)
+    else if is w 0x90 then enters h (Reads (Identity (bankOf p a)))
+    else if is w 0x58 then enters h (Reads Dybs)
+    else if is w 0x48 then enters h (Entering DybData)
+    else if is w 0x60 then enters h (Entering PpbSetup)
     else enters h Ground
-hears p h Unlock a w = if is w 0xF0 then enters h Ground else enters h Unlocked
-hears p h Unlocked a w =
-    if is w 0xA0 then enters h ProgramData
-    else if is w 0x80 then enters h EraseSetup
-    else if is w 0x90 then enters h (Identity (bankOf p a))
-    else if is w 0x58 then enters h DybReading
-    else if is w 0x48 then enters h DybData
-    else if is w 0x60 then enters h PpbSetup
-    else enters h Ground
-hears p h ProgramData a w = begins h (beginsProgram (h .doing) a w)
-hears p h EraseSetup a w = if is w 0xF0 then enters h Ground else enters h EraseUnlock
-hears p h EraseUnlock a w = if is w 0xF0 then enters h Ground else enters h EraseUnlocked
-hears p h EraseUnlocked a w =
+hearsCycle p h ProgramData a w = begins h (beginsProgram (h .doing) (writing a w))
+hearsCycle p h EraseSetup a w = if is w 0xF0 then enters h Ground else enters h (Entering EraseUnlock)
+hearsCycle p h EraseUnlock a w = if is w 0xF0 then enters h Ground else enters h (Entering EraseUnlocked)
+hearsCycle p h EraseUnlocked a w =
     if is w 0xF0 then enters h Ground
-    else if is w 0x10 then begins h (wipes (openBlocks h) (firstFrom (openBlocks h) 0) 0)
+    else if is w 0x10 then begins h (wipes (openBlocks p h) (firstFrom (openBlocks p h) 0) 0)
     else begins h (waits (withOf emptyOf (blockOf p a)) (blockOf p a) 0)
-hears p h DybData a w =
+hearsCycle p h DybData a w =
     if eqb (w % 16) 1 then protects h (withOf (h .dyb) (blockOf p a)) (h .ppb)
     else protects h (withoutOf (h .dyb) (blockOf p a)) (h .ppb)
-hears p h PpbSetup a w =
+hearsCycle p h PpbSetup a w =
     if is w 0xF0 then enters h Ground
-    else if is w 0x68 then enters h (PpbSetting (blockOf p a))
-    else enters h PpbClearing
-hears p h (PpbSetting b) a w = if is w 0xF0 then enters h Ground else protects h (h .dyb) (withOf (h .ppb) b)
-hears p h PpbClearing a w = if is w 0xF0 then enters h Ground else protects h (h .dyb) emptyOf
-hears p h (Identity bank) a w = enters h Ground
-hears p h DybReading a w = enters h Ground
+    else if is w 0x68 then enters h (Entering (PpbSetting (blockOf p a)))
+    else enters h (Entering PpbClearing)
+hearsCycle p h (PpbSetting b) a w = if is w 0xF0 then enters h Ground else protects h (h .dyb) (withOf (h .ppb) b)
+hearsCycle p h PpbClearing a w = if is w 0xF0 then enters h Ground else protects h (h .dyb) emptyOf
+
+unfoldable pub hears : Part → Told → Command → (a w : ℕ) → Told
+hears p h Ground a w =
+    if firstUnlock a w then enters h (Entering Unlock)
+    else if is w 0x30 then begins h (goesOn (h .doing))
+    else enters h Ground
+hears p h (Entering c) a w = hearsCycle p h c a w
+hears p h (Reads r) a w = enters h Ground
 
 -- a write taken while something runs suspends it, or adds a block in the window
 unfoldable pub wrote : Part → Told → Doing → (a w : ℕ) → Told
 wrote p h nothing a w = hears p h (h .command) a w
-wrote p h (programs x y g) a w = begins h (pauses x y g)
-wrote p h (pauses x y g) a w = hears p h (h .command) a w
+wrote p h (programs d g) a w = begins h (pauses d g)
+wrote p h (pauses d g) a w = hears p h (h .command) a w
 wrote p h (waits l b g) a w =
     if is w 0x30 then begins h (waits (withOf l (blockOf p a)) (min b (blockOf p a)) 0) else begins h (rests l b 0)
 wrote p h (erases l b g) a w = begins h (rests l b g)
 wrote p h (wipes l b g) a w = h
 wrote p h (rests l b g) a w = hears p h (h .command) a w
-wrote p h (programsIn x y pg l b g) a w = h
+wrote p h (programsIn d pg l b g) a w = h
 
 -- ---- a refused write
 
 -- "back to ground, a suspension stands; in the erase window the list is also dropped"
 unfoldable pub gaveUp : Told → Doing → Told
 gaveUp h nothing = enters h Ground
-gaveUp h (programs x y g) = enters h Ground
-gaveUp h (pauses x y g) = enters h Ground
+gaveUp h (programs d g) = enters h Ground
+gaveUp h (pauses d g) = enters h Ground
 gaveUp h (waits l b g) = begins h nothing
 gaveUp h (erases l b g) = enters h Ground
 gaveUp h (wipes l b g) = enters h Ground
 gaveUp h (rests l b g) = enters h Ground
-gaveUp h (programsIn x y pg l b g) = enters h Ground
+gaveUp h (programsIn d pg l b g) = enters h Ground
 
 -- "back to ground ..; in the window nothing changed"
 unfoldable pub turnedDown : Told → Doing → Told
 turnedDown h nothing = enters h Ground
-turnedDown h (programs x y g) = enters h Ground
-turnedDown h (pauses x y g) = enters h Ground
+turnedDown h (programs d g) = enters h Ground
+turnedDown h (pauses d g) = enters h Ground
 turnedDown h (waits l b g) = h
 turnedDown h (erases l b g) = enters h Ground
 turnedDown h (wipes l b g) = enters h Ground
 turnedDown h (rests l b g) = enters h Ground
-turnedDown h (programsIn x y pg l b g) = enters h Ground
+turnedDown h (programsIn d pg l b g) = enters h Ground
 
 unfoldable pub wroteAs : Part → Told → Kind → (a w : ℕ) → Told
 wroteAs p h taken a w = wrote p h (h .doing) a w
@@ -240,19 +249,18 @@ waitedAs p h unheard n = h
 abbrev pub eraseCuts : (gone b : ℕ) → (debris : List ℕ) → List Fact → List Fact
 eraseCuts g b debris fs = if ltb 0 g then eraseCut b debris ∷ fs else fs
 
-abbrev pub programCuts : (gone a w debris : ℕ) → List Fact → List Fact
-programCuts g a w debris fs = if ltb 0 g then programCut a w debris ∷ fs else fs
+abbrev pub programCuts : (gone : ℕ) → Written → (debris : List ℕ) → List Fact → List Fact
+programCuts g d debris fs = if ltb 0 g then programCut d debris ∷ fs else fs
 
 unfoldable pub cuts : Part → Doing → (debris : List ℕ) → List Fact → List Fact
 cuts p nothing debris fs = fs
-cuts p (programs a w g) debris fs = programCuts g a w (getD debris 0 0) fs
-cuts p (pauses a w g) debris fs = programCuts g a w (getD debris 0 0) fs
+cuts p (programs d g) debris fs = programCuts g d debris fs
+cuts p (pauses d g) debris fs = programCuts g d debris fs
 cuts p (waits l b g) debris fs = fs
 cuts p (erases l b g) debris fs = eraseCuts g b debris fs
 cuts p (wipes l b g) debris fs = eraseCuts g b debris fs
 cuts p (rests l b g) debris fs = eraseCuts g b debris fs
-cuts p (programsIn a w pg l b g) debris fs =
-    programCuts pg a w (getD debris (if ltb 0 g then sizeOf p b else 0) 0) (eraseCuts g b debris fs)
+cuts p (programsIn d pg l b g) debris fs = programCuts pg d (drop (if ltb 0 g then sizeOf p b else 0) debris) (eraseCuts g b debris fs)
 
 unfoldable pub cutAs : Part → Told → Kind → (debris : List ℕ) → Told
 cutAs p h taken debris = telling Ground nothing emptyOf (h .ppb) (cuts p (h .doing) debris (h .facts)) (h .clock) (h .charge)
@@ -283,11 +291,11 @@ history p ts = told p untold ts
 -- their order"
 
 unfoldable pub afterFact : Part → Fact → (x old : ℕ) → ℕ
-afterFact p (programDone a w) x old = if eqb x a then bitAnd old w else old
+afterFact p (programDone d) x old = if writes d x then bitAnd old (datum d x) else old
 afterFact p (eraseDone b) x old = if eqb (blockOf p x) b then 0xFFFF else old
-afterFact p (programCut a w d) x old = if eqb x a then bitAnd old (bitOr w d) else old
+afterFact p (programCut d debris) x old = if writes d x then bitAnd old (bitOr (datum d x) (debrisFor d debris x)) else old
 afterFact p (eraseCut b debris) x old = if eqb (blockOf p x) b then getD debris (x - firstOf p b) 0 else old
 
-unfoldable pub holds : Part → (start : List ℕ) → List Fact → (x : ℕ) → ℕ
-holds p start [] x = getD start x 0
+unfoldable pub holds : Part → (start : Lent) → List Fact → (x : ℕ) → ℕ
+holds p start [] x = cellAt start x
 holds p start (f ∷ fs) x = afterFact p f x (holds p start fs x)

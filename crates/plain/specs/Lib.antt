@@ -2,6 +2,9 @@ pub mod Choice
 pub mod Refusals
 pub mod Events
 pub mod Figures
+pub mod Lent
+pub mod Programs
+pub mod Operations
 pub mod Record
 pub mod Sound
 pub mod Cycles

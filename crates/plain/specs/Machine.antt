@@ -2,7 +2,7 @@
 use Prim.Native.Nat.{ℕ, _+_}
 use mathlib.Core.Bool.{Bool, not}
 use mathlib.Core.List.{List, [], _∷_}
-use lib.Dec.{ltb, leb, eqb}
+use lib.Dec.{ltb, leb}
 use lib.ListN.{length}
 use Rattle.geometry.specs.declared.Part.{Part}
 use Rattle.geometry.specs.Parts.{wordCount}
@@ -10,88 +10,103 @@ use Rattle.plain.specs.declared.Refusal.{Refusal}
 use Rattle.plain.specs.declared.Refusal.the-variants.{Done, State, Cells, Address, Clock, Debris, Inner}
 use Rattle.plain.specs.declared.Device.{Device}
 use Rattle.plain.specs.declared.Answer.{Answer}
+use Rattle.plain.specs.declared.Entry.{Entry}
+use Rattle.plain.specs.declared.Entry.the-variants.{Admitted, Barred}
 use Rattle.plain.specs.Choice.{if_then_else_}
 use Rattle.plain.specs.Events.{Event, read, write, wait, cut, Turn}
 use Rattle.plain.specs.Figures.{clockLimit}
+use Rattle.plain.specs.Lent.{Lent, isWhole}
 use Rattle.plain.specs.Record.{device, answer}
 use Rattle.plain.specs.Sound.{sound}
 use Rattle.plain.specs.Commands.{written, effected}
 use Rattle.plain.specs.Time.{Moment, moment, ticks, someEndProtected}
 use Rattle.plain.specs.Status.{look}
-use Rattle.plain.specs.Cut.{debrisNeeded, cutCells, cutDevice}
+use Rattle.plain.specs.Cut.{debrisNeeded, cutLent, cutDevice}
 
--- what comes of an event: the answer with the record, and the cells
+-- what comes of an event: the answer with the record, and what was lent
 pub record Outcome : Type 0 where
   pub answer : Answer
-  pub cells : List ℕ
+  pub lent : Lent
 
-abbrev pub outcome : Answer → List ℕ → Outcome
-outcome y cells = record { answer = y; cells = cells }
+abbrev pub outcome : Answer → Lent → Outcome
+outcome y l = record { answer = y; lent = l }
 
 -- "nothing changed"; "A refused read, and every event that is no read, gives the word 0."
-abbrev pub refused : Refusal → Device → List ℕ → Outcome
-refused n r cells = outcome (answer n 0 r) cells
+abbrev pub refused : Refusal → Device → Lent → Outcome
+refused n r l = outcome (answer n 0 r) l
 
--- "Checks run in this order: 1, 2, then .."
-abbrev pub checked : Part → Device → List ℕ → Outcome → Outcome
-checked p r cells taken =
-    if not (sound p r) then refused State r cells
-    else if not (eqb (length cells) (wordCount p)) then refused Cells r cells
-    else taken
+-- ---- the ladder: "Checks run in this order: 1, 2, then 3, 4 or 5 by event"
+
+unfoldable pub entry : Part → Device → Lent → Entry
+entry p r l =
+    if not (sound p r) then Barred State
+    else if not (isWhole p l) then Barred Cells
+    else Admitted
+
+unfoldable pub climbed : Entry → Device → Lent → Outcome → Outcome
+climbed Admitted r l taken = taken
+climbed (Barred n) r l taken = refused n r l
+
+-- an event that is refused by its own number where it fails, and is else taken
+unfoldable pub ladder : Part → Device → Lent → (fails : Bool) → (own : Refusal) → (taken : Outcome) → Outcome
+ladder p r l fails own taken = climbed (entry p r l) r l (if fails then refused own r l else taken)
 
 -- ---- the four events
 
-unfoldable pub readEvent : Part → Device → List ℕ → (address : ℕ) → Outcome
-readEvent p r cells a =
-    checked p r cells
-    (if not (ltb a (wordCount p)) then refused Address r cells
-    else
-    let s = look p (r .bits) (r .command) (r .operation) cells a in
-    outcome (answer Done (s .word) (device (r .meter) (r .command) (s .operation) (r .bits))) cells)
+abbrev pub readTaken : Part → Device → Lent → (address : ℕ) → Outcome
+readTaken p r l a =
+    let s = look p (r .bits) (r .command) (r .operation) l a in
+    outcome (answer Done (s .word) (device (r .meter) (r .command) (s .operation) (r .bits))) l
 
-unfoldable pub writeEvent : Part → Device → List ℕ → (address word : ℕ) → Outcome
-writeEvent p r cells a w =
-    checked p r cells
-    (if not (ltb a (wordCount p)) then refused Address r cells
-    else outcome (effected r (written p (r .bits) (r .operation) (r .command) a w)) cells)
+unfoldable pub readEvent : Part → Device → Lent → (address : ℕ) → Outcome
+readEvent p r l a = ladder p r l (not (ltb a (wordCount p))) Address (readTaken p r l a)
+
+abbrev pub writeTaken : Part → Device → Lent → (address word : ℕ) → Outcome
+writeTaken p r l a w = outcome (effected r (written p (r .bits) (r .operation) (r .command) a w)) l
+
+unfoldable pub writeEvent : Part → Device → Lent → (address word : ℕ) → Outcome
+writeEvent p r l a w = ladder p r l (not (ltb a (wordCount p))) Address (writeTaken p r l a w)
 
 -- "Only a wait takes time." INNER is judged last, over the whole wait
+abbrev pub now : Device → Lent → Moment
+now r l = moment (r .meter) (r .operation) l
+
 abbrev pub waited : Device → Moment → Outcome
-waited r m = outcome (answer Done 0 (device (m .meter) (r .command) (m .operation) (r .bits))) (m .cells)
+waited r m = outcome (answer Done 0 (device (m .meter) (r .command) (m .operation) (r .bits))) (m .lent)
 
-unfoldable pub waitEvent : Part → Device → List ℕ → (microseconds : ℕ) → Outcome
-waitEvent p r cells n =
-    checked p r cells
-    (if not (leb (r .meter .clock + n) (clockLimit p)) then refused Clock r cells
-    else if someEndProtected p (r .bits) n (moment (r .meter) (r .operation) cells) then refused Inner r cells
-    else waited r (ticks p n (moment (r .meter) (r .operation) cells)))
+abbrev pub waitTaken : Part → Device → Lent → (microseconds : ℕ) → Outcome
+waitTaken p r l n =
+    if someEndProtected p (r .bits) n (now r l) then refused Inner r l else waited r (ticks p n (now r l))
 
-unfoldable pub cutEvent : Part → Device → List ℕ → (debris : List ℕ) → Outcome
-cutEvent p r cells debris =
-    checked p r cells
-    (if ltb (length debris) (debrisNeeded p (r .operation)) then refused Debris r cells
-    else outcome (answer Done 0 (cutDevice r)) (cutCells p (r .operation) debris cells))
+unfoldable pub waitEvent : Part → Device → Lent → (microseconds : ℕ) → Outcome
+waitEvent p r l n = ladder p r l (not (leb (r .meter .clock + n) (clockLimit p))) Clock (waitTaken p r l n)
+
+abbrev pub cutTaken : Part → Device → Lent → (debris : List ℕ) → Outcome
+cutTaken p r l debris = outcome (answer Done 0 (cutDevice r)) (cutLent p (r .operation) debris l)
+
+unfoldable pub cutEvent : Part → Device → Lent → (debris : List ℕ) → Outcome
+cutEvent p r l debris = ladder p r l (ltb (length debris) (debrisNeeded p (r .operation))) Debris (cutTaken p r l debris)
 
 -- ---- any event, and a run: "In a run each event gets record and cells as the one before left them."
 
-unfoldable pub step : Part → Device → List ℕ → Event → Outcome
-step p r cells (read a) = readEvent p r cells a
-step p r cells (write a w) = writeEvent p r cells a w
-step p r cells (wait n) = waitEvent p r cells n
-step p r cells (cut debris) = cutEvent p r cells debris
+unfoldable pub step : Part → Device → Lent → Event → Outcome
+step p r l (read a) = readEvent p r l a
+step p r l (write a w) = writeEvent p r l a w
+step p r l (wait n) = waitEvent p r l n
+step p r l (cut debris) = cutEvent p r l debris
 
 pub record Ran : Type 0 where
   pub device : Device
-  pub cells : List ℕ
+  pub lent : Lent
   pub turns : List Turn
 
-unfoldable pub run : Part → Device → List ℕ → List Event → Ran
-run p r cells [] = record { device = r; cells = cells; turns = [] }
-run p r cells (e ∷ es) =
-    let o = step p r cells e in
-    let rest = run p (o .answer .device) (o .cells) es in
+unfoldable pub run : Part → Device → Lent → List Event → Ran
+run p r l [] = record { device = r; lent = l; turns = [] }
+run p r l (e ∷ es) =
+    let o = step p r l e in
+    let rest = run p (o .answer .device) (o .lent) es in
     record {
       device = rest .device;
-      cells = rest .cells;
+      lent = rest .lent;
       turns = record { event = e; refusal = o .answer .refusal; word = o .answer .word } ∷ rest .turns;
     }

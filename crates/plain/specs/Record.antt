@@ -6,6 +6,7 @@ use Rattle.meter.specs.declared.Meter.{Meter}
 use Rattle.protection.specs.declared.Protection.{Protection}
 use Rattle.protection.specs.Protection.{freshBits}
 use Rattle.plain.specs.declared.Refusal.{Refusal}
+use Rattle.plain.specs.declared.Written.{Written}
 use Rattle.plain.specs.declared.Program.{Program}
 use Rattle.plain.specs.declared.Erase.{Erase}
 use Rattle.plain.specs.declared.Inside.{Inside}
@@ -20,8 +21,8 @@ use Rattle.plain.specs.declared.Answer.{Answer}
 abbrev pub device : Meter → Command → Operation → Protection → Device
 device m c o b = record { meter = m; command = c; operation = o; bits = b }
 
-abbrev pub program : (at word left : ℕ) → Bool → Program
-program a w l six = record { at = a; word = w; left = l; dq6 = six }
+abbrev pub program : Written → (left : ℕ) → (six : Bool) → Program
+program d l six = record { writes = d; left = l; dq6 = six }
 
 abbrev pub erase : Blocks → (hand left : ℕ) → (six two : Bool) → Erase
 erase list h l six two = record { list = list; hand = h; left = l; dq6 = six; dq2 = two }
@@ -31,7 +32,7 @@ suspended e i = record { erase = e; inside = i }
 
 -- the same with another time left
 abbrev pub programLeft : Program → ℕ → Program
-programLeft q l = program (q .at) (q .word) l (q .dq6)
+programLeft q l = program (q .writes) l (q .dq6)
 
 abbrev pub eraseLeft : Erase → ℕ → Erase
 eraseLeft e l = erase (e .list) (e .hand) l (e .dq6) (e .dq2)

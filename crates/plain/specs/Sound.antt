@@ -5,7 +5,7 @@ use lib.Dec.{ltb, leb, eqb}
 use Rattle.blocks.specs.declared.Blocks.{Blocks}
 use Rattle.blocks.specs.Blocks.{has, some}
 use Rattle.geometry.specs.declared.Part.{Part}
-use Rattle.geometry.specs.Parts.{blockCount, wordCount, blockOf, bankOfBlock}
+use Rattle.geometry.specs.Parts.{blockCount, bankCount, bankOfBlock}
 use Rattle.meter.specs.declared.Meter.{Meter}
 use Rattle.protection.specs.declared.Protection.{Protection}
 use Rattle.protection.specs.Protection.{protected, strayBits}
@@ -15,10 +15,21 @@ use Rattle.plain.specs.declared.Inside.{Inside}
 use Rattle.plain.specs.declared.Inside.the-variants.{Nothing, Runs}
 use Rattle.plain.specs.declared.Operation.{Operation}
 use Rattle.plain.specs.declared.Operation.the-variants.{Idle, Programming, ProgramSuspended, Window, Erasing, EraseSuspended, ChipErasing}
+use Rattle.plain.specs.declared.Running.{Running}
+use Rattle.plain.specs.declared.Running.the-variants.{Still, Programs, Waits, Erases, ErasesChip}
+use Rattle.plain.specs.declared.Suspension.{Suspension}
+use Rattle.plain.specs.declared.Suspension.the-variants.{Unsuspended, OfProgram, OfErase}
 use Rattle.plain.specs.declared.Command.{Command}
-use Rattle.plain.specs.declared.Command.the-variants.{Ground, Unlock, Unlocked, ProgramData, EraseSetup, EraseUnlock, EraseUnlocked, DybData, PpbSetup, PpbSetting, PpbClearing, Identity, DybReading}
+use Rattle.plain.specs.declared.Command.the-variants.{Ground, Entering, Reads}
+use Rattle.plain.specs.declared.Cycle.{Cycle}
+use Rattle.plain.specs.declared.Cycle.the-variants.{Unlock, Unlocked, ProgramData, EraseSetup, EraseUnlock, EraseUnlocked, DybData, PpbSetup, PpbSetting, PpbClearing}
+use Rattle.plain.specs.declared.Reading.{Reading}
+use Rattle.plain.specs.declared.Reading.the-variants.{Identity, Dybs}
 use Rattle.plain.specs.declared.Device.{Device}
+use Rattle.plain.specs.Choice.{if_then_else_}
 use Rattle.plain.specs.Figures.{programTime, windowTime, eraseTime, chipTime, runningCurrent, clockLimit}
+use Rattle.plain.specs.Operations.{runningOf, suspensionOf}
+use Rattle.plain.specs.Programs.{liesIn, blockWritten}
 
 -- "the clock is at most the limit; charge is at most 17,000 times the clock"
 unfoldable pub meterSound : Part → Meter → Bool
@@ -30,25 +41,26 @@ timeSound left full = leb 1 left && leb left full
 
 -- "addresses .. are in range; .. a program's block is unprotected"
 unfoldable pub programSound : Part → Protection → Program → Bool
-programSound p bits q = ltb (q .at) (wordCount p) && (timeSound (q .left) (programTime p) && not (protected bits (blockOf p (q .at))))
+programSound p bits q =
+    liesIn p (q .writes) && (timeSound (q .left) (programTime p) && not (protected bits (blockWritten p (q .writes))))
 
 -- "block numbers are in range; an erase list .. lies in one bank (a chip erase may span all), and holds no protected block"
-abbrev pub mayErase : Protection → (hand b : ℕ) → Bool
-mayErase bits hand b = ltb b blockCount && (eqb (bankOfBlock b) (bankOfBlock hand) && not (protected bits b))
+abbrev pub mayErase : Part → Protection → (hand b : ℕ) → Bool
+mayErase p bits hand b = ltb b (blockCount p) && (eqb (bankOfBlock p b) (bankOfBlock p hand) && not (protected bits b))
 
-abbrev pub mayChipErase : Protection → (b : ℕ) → Bool
-mayChipErase bits b = ltb b blockCount && not (protected bits b)
+abbrev pub mayChipErase : Part → Protection → (b : ℕ) → Bool
+mayChipErase p bits b = ltb b (blockCount p) && not (protected bits b)
 
 -- does every number of the set pass the test?
 abbrev pub onlyThose : (ℕ → Bool) → Blocks → Bool
 onlyThose test list = not (some (λ b. has list b && not (test b)) 320)
 
 -- "an erase list is not empty ..; the block in hand is listed"
-unfoldable pub listSound : Protection → Erase → Bool
-listSound bits e = has (e .list) (e .hand) && onlyThose (mayErase bits (e .hand)) (e .list)
+unfoldable pub listSound : Part → Protection → Erase → Bool
+listSound p bits e = has (e .list) (e .hand) && onlyThose (mayErase p bits (e .hand)) (e .list)
 
-unfoldable pub chipListSound : Protection → Erase → Bool
-chipListSound bits e = has (e .list) (e .hand) && onlyThose (mayChipErase bits) (e .list)
+unfoldable pub chipListSound : Part → Protection → Erase → Bool
+chipListSound p bits e = has (e .list) (e .hand) && onlyThose (mayChipErase p bits) (e .list)
 
 -- "in the window it is the lowest"
 unfoldable pub lowest : Erase → Bool
@@ -57,7 +69,7 @@ lowest e = not (some (has (e .list)) (e .hand))
 -- "a program's block is .. not on a suspended erase list"
 unfoldable pub insideSound : Part → Protection → Erase → Inside → Bool
 insideSound p bits e Nothing = true
-insideSound p bits e (Runs q) = programSound p bits q && not (has (e .list) (blockOf p (q .at)))
+insideSound p bits e (Runs q) = programSound p bits q && not (has (e .list) (blockWritten p (q .writes)))
 
 -- "a window belongs to a running block erase with full time left, its own time left from 1 to 50; .. only a block erase or a
 -- program may be suspended; a second operation is only a program inside a suspended erase, and that program runs"
@@ -65,73 +77,70 @@ unfoldable pub operationSound : Part → Protection → Operation → Bool
 operationSound p bits Idle = true
 operationSound p bits (Programming q) = programSound p bits q
 operationSound p bits (ProgramSuspended q) = programSound p bits q
-operationSound p bits (Window e) = listSound bits e && (lowest e && timeSound (e .left) (windowTime p))
-operationSound p bits (Erasing e) = listSound bits e && timeSound (e .left) (eraseTime p)
+operationSound p bits (Window e) = listSound p bits e && (lowest e && timeSound (e .left) (windowTime p))
+operationSound p bits (Erasing e) = listSound p bits e && timeSound (e .left) (eraseTime p)
 operationSound p bits (EraseSuspended s) =
-    (listSound bits (s .erase) && timeSound (s .erase .left) (eraseTime p)) && insideSound p bits (s .erase) (s .inside)
-operationSound p bits (ChipErasing e) = chipListSound bits e && timeSound (e .left) (chipTime p)
+    (listSound p bits (s .erase) && timeSound (s .erase .left) (eraseTime p)) && insideSound p bits (s .erase) (s .inside)
+operationSound p bits (ChipErasing e) = chipListSound p bits e && timeSound (e .left) (chipTime p)
 
--- may the register stand so while nothing runs or rests? "block numbers are in range": of 68H's block, and of a bank 0 to 3
-unfoldable pub idleCommand : Command → Bool
-idleCommand Ground = true
-idleCommand Unlock = true
-idleCommand Unlocked = true
-idleCommand ProgramData = true
-idleCommand EraseSetup = true
-idleCommand EraseUnlock = true
-idleCommand EraseUnlocked = true
-idleCommand DybData = true
-idleCommand PpbSetup = true
-idleCommand (PpbSetting b) = ltb b blockCount
-idleCommand PpbClearing = true
-idleCommand (Identity bank) = ltb bank 4
-idleCommand DybReading = true
+-- "block numbers are in range": of 68H's block, and of the bank of identity reading
+unfoldable pub cycleInRange : Part → Cycle → Bool
+cycleInRange p Unlock = true
+cycleInRange p Unlocked = true
+cycleInRange p ProgramData = true
+cycleInRange p EraseSetup = true
+cycleInRange p EraseUnlock = true
+cycleInRange p EraseUnlocked = true
+cycleInRange p DybData = true
+cycleInRange p PpbSetup = true
+cycleInRange p (PpbSetting b) = ltb b (blockCount p)
+cycleInRange p PpbClearing = true
 
--- "no command is half entered and no identity or 58H reading is on while an operation runs"
-unfoldable pub runningCommand : Command → Bool
-runningCommand Ground = true
-runningCommand Unlock = false
-runningCommand Unlocked = false
-runningCommand ProgramData = false
-runningCommand EraseSetup = false
-runningCommand EraseUnlock = false
-runningCommand EraseUnlocked = false
-runningCommand DybData = false
-runningCommand PpbSetup = false
-runningCommand (PpbSetting b) = false
-runningCommand PpbClearing = false
-runningCommand (Identity bank) = false
-runningCommand DybReading = false
+unfoldable pub readingInRange : Part → Reading → Bool
+readingInRange p (Identity bank) = ltb bank (bankCount p)
+readingInRange p Dybs = true
 
 -- "in suspension none is half entered past 80H, 48H or 60H, nor past A0H in a suspended program"
-unfoldable pub suspendedCommand : (afterA0 : Bool) → Command → Bool
-suspendedCommand afterA0 Ground = true
-suspendedCommand afterA0 Unlock = true
-suspendedCommand afterA0 Unlocked = true
-suspendedCommand afterA0 ProgramData = afterA0
-suspendedCommand afterA0 EraseSetup = false
-suspendedCommand afterA0 EraseUnlock = false
-suspendedCommand afterA0 EraseUnlocked = false
-suspendedCommand afterA0 DybData = false
-suspendedCommand afterA0 PpbSetup = false
-suspendedCommand afterA0 (PpbSetting b) = false
-suspendedCommand afterA0 PpbClearing = false
-suspendedCommand afterA0 (Identity bank) = ltb bank 4
-suspendedCommand afterA0 DybReading = true
+unfoldable pub cycleInSuspension : (afterA0 : Bool) → Cycle → Bool
+cycleInSuspension afterA0 Unlock = true
+cycleInSuspension afterA0 Unlocked = true
+cycleInSuspension afterA0 ProgramData = afterA0
+cycleInSuspension afterA0 EraseSetup = false
+cycleInSuspension afterA0 EraseUnlock = false
+cycleInSuspension afterA0 EraseUnlocked = false
+cycleInSuspension afterA0 DybData = false
+cycleInSuspension afterA0 PpbSetup = false
+cycleInSuspension afterA0 (PpbSetting b) = false
+cycleInSuspension afterA0 PpbClearing = false
 
-unfoldable pub insideCommand : Inside → Command → Bool
-insideCommand Nothing c = suspendedCommand true c
-insideCommand (Runs q) c = runningCommand c
+unfoldable pub cycleSound : Part → Suspension → Cycle → Bool
+cycleSound p Unsuspended c = cycleInRange p c
+cycleSound p (OfProgram q) c = cycleInSuspension false c
+cycleSound p (OfErase e) c = cycleInSuspension true c
 
-unfoldable pub commandSound : Operation → Command → Bool
-commandSound Idle c = idleCommand c
-commandSound (Programming q) c = runningCommand c
-commandSound (ProgramSuspended q) c = suspendedCommand false c
-commandSound (Window e) c = runningCommand c
-commandSound (Erasing e) c = runningCommand c
-commandSound (EraseSuspended s) c = insideCommand (s .inside) c
-commandSound (ChipErasing e) c = runningCommand c
+-- may the register stand so while nothing runs?
+unfoldable pub stillCommand : Part → Suspension → Command → Bool
+stillCommand p s Ground = true
+stillCommand p s (Entering c) = cycleSound p s c
+stillCommand p s (Reads r) = readingInRange p r
+
+-- "no command is half entered and no identity or 58H reading is on while an operation runs"
+unfoldable pub isGround : Command → Bool
+isGround Ground = true
+isGround (Entering c) = false
+isGround (Reads r) = false
+
+unfoldable pub isStill : Running → Bool
+isStill Still = true
+isStill (Programs q) = false
+isStill (Waits e) = false
+isStill (Erases e) = false
+isStill (ErasesChip e) = false
+
+unfoldable pub commandSound : Part → Operation → Command → Bool
+commandSound p o c = if isStill (runningOf o) then stillCommand p (suspensionOf o) c else isGround c
 
 unfoldable pub sound : Part → Device → Bool
 sound p r =
-    meterSound p (r .meter) && (not (strayBits (r .bits)) && (operationSound p (r .bits) (r .operation) && commandSound (r .operation) (r .command)))
+    meterSound p (r .meter) && (not (strayBits p (r .bits))
+    && (operationSound p (r .bits) (r .operation) && commandSound p (r .operation) (r .command)))

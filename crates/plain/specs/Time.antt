@@ -1,12 +1,11 @@
 -- Time and charge (document 01, "Time, charge and the cells"), a microsecond after the other: a wait of n is n of them.
 use Prim.Native.Nat.{ℕ, zero, suc, _-_}
 use mathlib.Core.Bool.{Bool, true, false, _&&_, _||_}
-use mathlib.Core.List.{List}
 use lib.Dec.{leb, ltb}
 use Rattle.blocks.specs.Blocks.{firstFrom}
-use Rattle.cells.specs.Cells.{programmed, erased}
+use Rattle.cells.specs.Cells.{erased}
 use Rattle.geometry.specs.declared.Part.{Part}
-use Rattle.geometry.specs.Parts.{blockCount, blockOf, firstOf, sizeOf}
+use Rattle.geometry.specs.Parts.{blockCount, firstOf, sizeOf}
 use Rattle.meter.specs.declared.Meter.{Meter}
 use Rattle.meter.specs.Meter.{metered}
 use Rattle.protection.specs.declared.Protection.{Protection}
@@ -17,18 +16,23 @@ use Rattle.plain.specs.declared.Inside.{Inside}
 use Rattle.plain.specs.declared.Inside.the-variants.{Nothing, Runs}
 use Rattle.plain.specs.declared.Operation.{Operation}
 use Rattle.plain.specs.declared.Operation.the-variants.{Idle, Programming, ProgramSuspended, Window, Erasing, EraseSuspended, ChipErasing}
+use Rattle.plain.specs.declared.Running.{Running}
+use Rattle.plain.specs.declared.Running.the-variants.{Still, Programs, Waits, Erases, ErasesChip}
 use Rattle.plain.specs.Choice.{if_then_else_}
-use Rattle.plain.specs.Figures.{eraseTime, chipTime, runningCurrent, restingCurrent}
+use Rattle.plain.specs.Figures.{eraseTime, chipTime, runningCurrent, standbyCurrent}
+use Rattle.plain.specs.Lent.{Lent, withCells}
+use Rattle.plain.specs.Operations.{runningOf}
+use Rattle.plain.specs.Programs.{blockWritten, finished}
 use Rattle.plain.specs.Record.{programLeft, eraseLeft, erase, suspended}
 
--- what time changes: the meter, the operation and the cells
+-- what time changes: the meter, the operation and what is lent
 pub record Moment : Type 0 where
   pub meter : Meter
   pub operation : Operation
-  pub cells : List ℕ
+  pub lent : Lent
 
-abbrev pub moment : Meter → Operation → List ℕ → Moment
-moment m o cells = record { meter = m; operation = o; cells = cells }
+abbrev pub moment : Meter → Operation → Lent → Moment
+moment m o l = record { meter = m; operation = o; lent = l }
 
 -- is this the last microsecond of a time left?
 abbrev pub last : (left : ℕ) → Bool
@@ -36,25 +40,19 @@ last left = leb left 1
 
 -- ---- what a microsecond draws
 
-unfoldable pub insideCurrent : Part → Inside → ℕ
-insideCurrent p Nothing = restingCurrent p
-insideCurrent p (Runs q) = runningCurrent p
-
-unfoldable pub current : Part → Operation → ℕ
-current p Idle = restingCurrent p
-current p (Programming q) = runningCurrent p
-current p (ProgramSuspended q) = restingCurrent p
-current p (Window e) = restingCurrent p
-current p (Erasing e) = runningCurrent p
-current p (EraseSuspended s) = insideCurrent p (s .inside)
-current p (ChipErasing e) = runningCurrent p
+unfoldable pub current : Part → Running → ℕ
+current p Still = standbyCurrent p
+current p (Programs q) = runningCurrent p
+current p (Waits e) = standbyCurrent p
+current p (Erases e) = runningCurrent p
+current p (ErasesChip e) = runningCurrent p
 
 -- ---- what it does to the operation
 
 -- "listed blocks are erased in rising number": the next one with its full time, or the end
-abbrev pub onward : (Erase → Operation) → (full : ℕ) → Erase → Operation
-onward erasing full e =
-    if ltb (firstFrom (e .list) (suc (e .hand))) blockCount
+abbrev pub onward : Part → (Erase → Operation) → (full : ℕ) → Erase → Operation
+onward p erasing full e =
+    if ltb (firstFrom (e .list) (suc (e .hand))) (blockCount p)
     then erasing (erase (e .list) (firstFrom (e .list) (suc (e .hand))) full (e .dq6) (e .dq2))
     else Idle
 
@@ -70,37 +68,29 @@ operationTick p Idle = Idle
 operationTick p (Programming q) = if last (q .left) then Idle else Programming (programLeft q (q .left - 1))
 operationTick p (ProgramSuspended q) = ProgramSuspended q
 operationTick p (Window e) = if last (e .left) then Erasing (eraseLeft e (eraseTime p)) else Window (eraseLeft e (e .left - 1))
-operationTick p (Erasing e) = if last (e .left) then onward Erasing (eraseTime p) e else Erasing (eraseLeft e (e .left - 1))
+operationTick p (Erasing e) = if last (e .left) then onward p Erasing (eraseTime p) e else Erasing (eraseLeft e (e .left - 1))
 operationTick p (EraseSuspended s) = insideTick (s .erase) (s .inside)
 operationTick p (ChipErasing e) =
-    if last (e .left) then onward ChipErasing (chipTime p) e else ChipErasing (eraseLeft e (e .left - 1))
+    if last (e .left) then onward p ChipErasing (chipTime p) e else ChipErasing (eraseLeft e (e .left - 1))
 
 -- ---- what it does to the cells: "Cells change only when a word or block is finished."
 
-abbrev pub programTick : Program → List ℕ → List ℕ
-programTick q cells = if last (q .left) then programmed cells (q .at) (q .word) else cells
+abbrev pub eraseFinished : Part → Erase → Lent → Lent
+eraseFinished p e l = withCells l (erased (l .cells) (firstOf p (e .hand)) (sizeOf p (e .hand)))
 
-abbrev pub eraseTick : Part → Erase → List ℕ → List ℕ
-eraseTick p e cells = if last (e .left) then erased cells (firstOf p (e .hand)) (sizeOf p (e .hand)) else cells
-
-unfoldable pub insideCells : Inside → List ℕ → List ℕ
-insideCells Nothing cells = cells
-insideCells (Runs q) cells = programTick q cells
-
-unfoldable pub cellsTick : Part → Operation → List ℕ → List ℕ
-cellsTick p Idle cells = cells
-cellsTick p (Programming q) cells = programTick q cells
-cellsTick p (ProgramSuspended q) cells = cells
-cellsTick p (Window e) cells = cells
-cellsTick p (Erasing e) cells = eraseTick p e cells
-cellsTick p (EraseSuspended s) cells = insideCells (s .inside) cells
-cellsTick p (ChipErasing e) cells = eraseTick p e cells
+unfoldable pub lentTick : Part → Running → Lent → Lent
+lentTick p Still l = l
+lentTick p (Programs q) l = if last (q .left) then finished (q .writes) l else l
+lentTick p (Waits e) l = l
+lentTick p (Erases e) l = if last (e .left) then eraseFinished p e l else l
+lentTick p (ErasesChip e) l = if last (e .left) then eraseFinished p e l else l
 
 -- ---- one microsecond, and n of them
 
 unfoldable pub tick : Part → Moment → Moment
 tick p m =
-    moment (metered (m .meter) 1 (current p (m .operation))) (operationTick p (m .operation)) (cellsTick p (m .operation) (m .cells))
+    let runs = runningOf (m .operation) in
+    moment (metered (m .meter) 1 (current p runs)) (operationTick p (m .operation)) (lentTick p runs (m .lent))
 
 unfoldable pub ticks : Part → ℕ → Moment → Moment
 ticks p zero m = m
@@ -108,27 +98,15 @@ ticks p (suc n) m = ticks p n (tick p m)
 
 -- ---- "12 INNER: an operation ends in a block then protected"
 
-abbrev pub programEnds : Part → Protection → Program → Bool
-programEnds p bits q = last (q .left) && protected bits (blockOf p (q .at))
-
-abbrev pub eraseEnds : Protection → Erase → Bool
-eraseEnds bits e = last (e .left) && protected bits (e .hand)
-
-unfoldable pub insideEnds : Part → Protection → Inside → Bool
-insideEnds p bits Nothing = false
-insideEnds p bits (Runs q) = programEnds p bits q
-
 -- does this microsecond end one so?
-unfoldable pub endsProtected : Part → Protection → Operation → Bool
-endsProtected p bits Idle = false
-endsProtected p bits (Programming q) = programEnds p bits q
-endsProtected p bits (ProgramSuspended q) = false
-endsProtected p bits (Window e) = false
-endsProtected p bits (Erasing e) = eraseEnds bits e
-endsProtected p bits (EraseSuspended s) = insideEnds p bits (s .inside)
-endsProtected p bits (ChipErasing e) = eraseEnds bits e
+unfoldable pub endsProtected : Part → Protection → Running → Bool
+endsProtected p bits Still = false
+endsProtected p bits (Programs q) = last (q .left) && protected bits (blockWritten p (q .writes))
+endsProtected p bits (Waits e) = false
+endsProtected p bits (Erases e) = last (e .left) && protected bits (e .hand)
+endsProtected p bits (ErasesChip e) = last (e .left) && protected bits (e .hand)
 
 -- does one of n microseconds?
 unfoldable pub someEndProtected : Part → Protection → ℕ → Moment → Bool
 someEndProtected p bits zero m = false
-someEndProtected p bits (suc n) m = endsProtected p bits (m .operation) || someEndProtected p bits n (tick p m)
+someEndProtected p bits (suc n) m = endsProtected p bits (runningOf (m .operation)) || someEndProtected p bits n (tick p m)

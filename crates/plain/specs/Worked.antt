@@ -1,10 +1,12 @@
 -- Worked histories, to be held against the definitions: what a run's events and answers tell, and what its cells hold.
 use Prim.Native.Nat.{ℕ}
 use mathlib.Core.List.{List, [], _∷_, _++_, map}
-use lib.ListN.{getD, replicate}
+use lib.ListN.{replicate}
 use Rattle.geometry.specs.declared.Part.the-variants.{Small}
 use Rattle.plain.specs.Refusals.{number}
 use Rattle.plain.specs.Events.{Event, read, write, wait, cut, Turn}
+use Rattle.plain.specs.Lent.{Lent, lent, cellAt}
+use Rattle.plain.specs.Programs.{writing}
 use Rattle.plain.specs.Record.{fresh}
 use Rattle.plain.specs.Machine.{Ran, run}
 use Rattle.plain.specs.History.{Fact, programDone, eraseDone, programCut, eraseCut, Told, history}
@@ -29,12 +31,12 @@ pub record Work : Type 0 where
 abbrev pub work : List Event → List ℕ → Tale → Work
 work es at t = record { events = es; addresses = at; stated = t }
 
-abbrev pub blank : List ℕ
-blank = replicate 16384 0xFFFF
+abbrev pub blank : Lent
+blank = lent (replicate 16384 0xFFFF)
 
 -- facts, clock and charge are the history's; refusals and words the run's
 abbrev pub tells : Ran → Told → List ℕ → Tale
-tells r h at = tale (map (λ (t : Turn). number (t .refusal)) (r .turns)) (h .facts) (map (λ a. getD (r .cells) a 0) at) (h .clock) (h .charge)
+tells r h at = tale (map (λ (t : Turn). number (t .refusal)) (r .turns)) (h .facts) (map (cellAt (r .lent)) at) (h .clock) (h .charge)
 
 abbrev pub worked : Work → Tale
 worked w = tells (run Small fresh blank (w .events)) (history Small (run Small fresh blank (w .events) .turns)) (w .addresses)
@@ -58,25 +60,25 @@ six = 0 ∷ 0 ∷ 0 ∷ 0 ∷ 0 ∷ 0 ∷ []
 
 -- row b's program is finished
 abbrev finished : Work
-finished = work (programOf 100 0x1234 ++ (wait 6 ∷ [])) (100 ∷ []) (tale (four ++ (0 ∷ [])) (programDone 100 0x1234 ∷ []) (0x1234 ∷ []) 6 102000)
+finished = work (programOf 100 0x1234 ++ (wait 6 ∷ [])) (100 ∷ []) (tale (four ++ (0 ∷ [])) (programDone (writing 100 0x1234) ∷ []) (0x1234 ∷ []) 6 102000)
 
 -- a write in the middle that is BUSY changes nothing
 abbrev busy : Work
 busy =
     work (programOf 100 0x1234 ++ (wait 3 ∷ write 0 0xF0 ∷ wait 3 ∷ [])) (100 ∷ [])
-    (tale (four ++ (0 ∷ 6 ∷ 0 ∷ [])) (programDone 100 0x1234 ∷ []) (0x1234 ∷ []) 6 102000)
+    (tale (four ++ (0 ∷ 6 ∷ 0 ∷ [])) (programDone (writing 100 0x1234) ∷ []) (0x1234 ∷ []) 6 102000)
 
 -- a suspended and resumed erase counts only its progress: 100,000 and 600,000 µs
 abbrev resumed : Work
 resumed =
     work (programOf 64 0 ++ (wait 6 ∷ []) ++ eraseOf 64 ++ (wait 100050 ∷ write 0 0xB0 ∷ wait 1000000 ∷ write 0 0x30 ∷ wait 599999 ∷ read 64 ∷ wait 1 ∷ [])) (64 ∷ [])
-    (tale (four ++ (0 ∷ []) ++ six ++ (0 ∷ 0 ∷ 0 ∷ 0 ∷ 0 ∷ 0 ∷ 0 ∷ [])) (eraseDone 8 ∷ programDone 64 0 ∷ []) (0xFFFF ∷ []) 1700056 11915102750)
+    (tale (four ++ (0 ∷ []) ++ six ++ (0 ∷ 0 ∷ 0 ∷ 0 ∷ 0 ∷ 0 ∷ 0 ∷ [])) (eraseDone 8 ∷ programDone (writing 64 0) ∷ []) (0xFFFF ∷ []) 1700056 11915102750)
 
 -- a window dropped by SEQUENCE never finishes
 abbrev abandoned : Work
 abandoned =
     work (programOf 64 0 ++ (wait 6 ∷ []) ++ eraseOf 64 ++ (wait 10 ∷ write 0 0xAA ∷ wait 800000 ∷ [])) (64 ∷ [])
-    (tale (four ++ (0 ∷ []) ++ six ++ (0 ∷ 7 ∷ 0 ∷ [])) (programDone 64 0 ∷ []) (0 ∷ []) 800016 12102150)
+    (tale (four ++ (0 ∷ []) ++ six ++ (0 ∷ 7 ∷ 0 ∷ [])) (programDone (writing 64 0) ∷ []) (0 ∷ []) 800016 12102150)
 
 -- a chip erase passes over a protected block: block 0 has its DYB set, so blocks 1 and 2 come first
 abbrev chipOver : Work
@@ -84,7 +86,7 @@ chipOver =
     work
     (programOf 0 0 ++ (wait 6 ∷ []) ++ unlock ++ (write 0x555 0x48 ∷ write 0 1 ∷ []) ++ unlock ++ (write 0x555 0x80 ∷ unlock ++ (write 0x555 0x10 ∷ wait 1000000 ∷ [])))
     (0 ∷ [])
-    (tale (four ++ (0 ∷ []) ++ four ++ six ++ (0 ∷ [])) (eraseDone 2 ∷ eraseDone 1 ∷ programDone 0 0 ∷ []) (0 ∷ []) 1000006 17000102000)
+    (tale (four ++ (0 ∷ []) ++ four ++ six ++ (0 ∷ [])) (eraseDone 2 ∷ eraseDone 1 ∷ programDone (writing 0 0) ∷ []) (0 ∷ []) 1000006 17000102000)
 
 -- ---- the auditor's question: a cut during a program inside a suspended erase, and what comes after
 
@@ -107,7 +109,7 @@ looked = 63 ∷ 64 ∷ 126 ∷ 127 ∷ 128 ∷ 199 ∷ 200 ∷ 201 ∷ 300 ∷ [
 abbrev pub cutFlat : Work
 cutFlat =
     work flat looked
-    (tale flatRefusals (programCut 200 0x1234 0xFF00 ∷ eraseCut 8 debris ∷ programDone 300 0x5678 ∷ [])
+    (tale flatRefusals (programCut (writing 200 0x1234) (0xFF00 ∷ []) ∷ eraseCut 8 debris ∷ programDone (writing 300 0x5678) ∷ [])
     (0xFFFF ∷ 0xAAAA ∷ 0xAAAA ∷ 0xBBBB ∷ 0xFFFF ∷ 0xFFFF ∷ 0xFF34 ∷ 0xFFFF ∷ 0x5678 ∷ []) 301061 5100202750)
 
 -- after that cut the PPB still protects block 0, a further program is finished, and a second cut needs no debris
@@ -115,7 +117,7 @@ abbrev secondCut : Work
 secondCut =
     work (flat ++ eraseOf 0 ++ programOf 201 0x0F0F ++ (wait 6 ∷ cut [] ∷ [])) looked
     (tale (flatRefusals ++ (0 ∷ 0 ∷ 0 ∷ 0 ∷ 0 ∷ 9 ∷ []) ++ four ++ (0 ∷ 0 ∷ []))
-    (programDone 201 0x0F0F ∷ programCut 200 0x1234 0xFF00 ∷ eraseCut 8 debris ∷ programDone 300 0x5678 ∷ [])
+    (programDone (writing 201 0x0F0F) ∷ programCut (writing 200 0x1234) (0xFF00 ∷ []) ∷ eraseCut 8 debris ∷ programDone (writing 300 0x5678) ∷ [])
     (0xFFFF ∷ 0xAAAA ∷ 0xAAAA ∷ 0xBBBB ∷ 0xFFFF ∷ 0xFFFF ∷ 0xFF34 ∷ 0x0F0F ∷ 0x5678 ∷ []) 301067 5100304750)
 
 abbrev pub tales : List Work

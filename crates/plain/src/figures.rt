@@ -1,15 +1,46 @@
-// The figures of document 01, the same for both parts: microseconds, and picocoulombs a microsecond. Every crate of the
-// machine takes them from here.
-pub const PROGRAM_TIME: u64 = 6;
+// The figures of document 01, by part: microseconds, and picocoulombs a microsecond. All code takes them from here.
+ghost use mathlib.Core.Path.{_≡_};
+ghost use Rattle.plain.specs.Figures.{programTime, windowTime, eraseTime, chipTime, runningCurrent, standbyCurrent, clockLimit};
+use geometry::Part;
 
-pub const WINDOW_TIME: u64 = 50;
+pub fn program_time(part: Part) -> u64
+    ensures { λ r. ⌜ r ≡ programTime part ⌝ }
+{
+    6
+}
 
-pub const ERASE_TIME: u64 = 700000;
+pub fn window_time(part: Part) -> u64
+    ensures { λ r. ⌜ r ≡ windowTime part ⌝ }
+{
+    50
+}
 
-pub const CHIP_TIME: u64 = 500000;
+pub fn erase_time(part: Part) -> u64
+    ensures { λ r. ⌜ r ≡ eraseTime part ⌝ }
+{
+    700000
+}
 
-pub const RUNNING_CURRENT: u64 = 17000;
+pub fn chip_time(part: Part) -> u64
+    ensures { λ r. ⌜ r ≡ chipTime part ⌝ }
+{
+    500000
+}
 
-pub const RESTING_CURRENT: u64 = 15;
+pub fn running_current(part: Part) -> u64
+    ensures { λ r. ⌜ r ≡ runningCurrent part ⌝ }
+{
+    17000
+}
 
-pub const CLOCK_LIMIT: u64 = 100000000000000;
+pub fn standby_current(part: Part) -> u64
+    ensures { λ r. ⌜ r ≡ standbyCurrent part ⌝ }
+{
+    15
+}
+
+pub fn clock_limit(part: Part) -> u64
+    ensures { λ r. ⌜ r ≡ clockLimit part ⌝ }
+{
+    100000000000000
+}

@@ -22,10 +22,15 @@ pub enum Refusal {
     Inner,
 }
 
-// A program: its address and data, the microseconds left, and its toggle.
-pub struct Program {
+// What a program writes: "address and all 16 data bits". Who asks of it goes by Programs, and takes it apart nowhere else.
+pub struct Written {
     pub at: usize,
     pub word: u16,
+}
+
+// A program: what it writes, the microseconds left, and its toggle.
+pub struct Program {
+    pub writes: Written,
     pub left: u64,
     pub dq6: bool,
 }
@@ -50,7 +55,7 @@ pub struct SuspendedErase {
     pub inside: Inside,
 }
 
-// What runs or rests. In the window `left` is the window's time: the block in hand has its full time yet.
+// What runs or is suspended. In the window `left` is the window's time: the block in hand has its full time yet.
 pub enum Operation {
     Idle,
     Programming(Program),
@@ -61,9 +66,31 @@ pub enum Operation {
     ChipErasing(Erase),
 }
 
-// The command register: how far a command is entered, or which reading is on.
+// What of an operation runs, a program inside a suspended erase included: asked by all who go by what runs now.
+pub enum Running {
+    Still,
+    Programs(Program),
+    Waits(Erase),
+    Erases(Erase),
+    ErasesChip(Erase),
+}
+
+// What of an operation is suspended: asked by all who go by what waits to be resumed.
+pub enum Suspension {
+    Unsuspended,
+    OfProgram(Program),
+    OfErase(Erase),
+}
+
+// The command register.
 pub enum Command {
     Ground,
+    Entering(Cycle),
+    Reads(Reading),
+}
+
+// A command that is half entered: the cycle that was taken last.
+pub enum Cycle {
     Unlock,
     Unlocked,
     ProgramData,
@@ -74,8 +101,12 @@ pub enum Command {
     PpbSetup,
     PpbSetting(usize),
     PpbClearing,
+}
+
+// A reading that is on: identity in a bank, or 58H.
+pub enum Reading {
     Identity(usize),
-    DybReading,
+    Dybs,
 }
 
 // The whole record.
@@ -119,4 +150,16 @@ pub struct Seen {
 pub enum Place {
     Nowhere,
     At(usize),
+}
+
+// What a begun program writes, which a cut would hit; or that none has begun.
+pub enum BegunProgram {
+    NoProgram,
+    Writes(Written),
+}
+
+// Whether an event may go on after the checks that all events begin with.
+pub enum Entry {
+    Admitted,
+    Barred(Refusal),
 }

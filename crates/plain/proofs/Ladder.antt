@@ -1,0 +1,75 @@
+-- The checks that every event begins with, told once: what each rung comes to, and what holds of an event if it holds on each.
+use Prim.Native.Nat.{ℕ}
+use mathlib.Core.Path.{_≡_, refl, ap, _∙_}
+use mathlib.Core.Bool.{Bool, true, false, not}
+use native.Mathlib.Omega.{arith}
+use lib.ListN.{length}
+use borrow.Author.Tests.{not-true, not-false, eqb-true, eq-eqb, ne-eqb}
+use Rattle.geometry.specs.declared.Part.{Part}
+use Rattle.geometry.specs.Parts.{wordCount}
+use Rattle.plain.specs.declared.Refusal.{Refusal}
+use Rattle.plain.specs.declared.Refusal.the-variants.{State, Cells}
+use Rattle.plain.specs.declared.Device.{Device}
+use Rattle.plain.specs.declared.Entry.{Entry}
+use Rattle.plain.specs.declared.Entry.the-variants.{Admitted, Barred}
+use Rattle.plain.specs.Lent.{Lent, isWhole}
+use Rattle.plain.specs.Sound.{sound}
+use Rattle.plain.specs.Machine.{Outcome, refused, entry, climbed, ladder}
+use Rattle.plain.proofs.Tools.{by-test, by-cases, clash}
+
+-- what an admitted event knows
+pub record Fit (p : Part) (r : Device) (l : Lent) : Type 0 where
+  pub sound : sound p r ≡ true
+  pub whole : length (l .cells) ≡ wordCount p
+
+module _ (p : Part) (r : Device) (l : Lent) where
+  -- ---- the entry
+
+  pub entry-state : sound p r ≡ false → entry p r l ≡ Barred State
+  unfolding entry
+  entry-state s = rw s
+
+  pub entry-cells : sound p r ≡ true → (length (l .cells) ≡ wordCount p → ⊥) → entry p r l ≡ Barred Cells
+  unfolding entry
+  entry-cells s n = rw (s, ne-eqb (length (l .cells)) (wordCount p) n)
+
+  pub entry-admitted : Fit p r l → entry p r l ≡ Admitted
+  unfolding entry
+  entry-admitted f = rw (f .sound, eq-eqb (length (l .cells)) (wordCount p) (f .whole))
+
+  -- what holds of each answer of it holds of its answer
+  pub by-entry : {P : Type 0} → (sound p r ≡ false → P) → (sound p r ≡ true → (length (l .cells) ≡ wordCount p → ⊥) → P) → (Fit p r l → P) → P
+  by-entry f g h =
+      by-cases (sound p r)
+      (λ s. by-cases (isWhole p l) (λ e. h (record { sound = s; whole = eqb-true _ _ e })) (λ e. g s (λ d. clash (eq-eqb _ _ d) e)))
+      f
+
+  -- an admitted event's record is sound, and its cells are whole
+  pub admitted : entry p r l ≡ Admitted → Fit p r l
+  admitted e =
+      by-entry (λ s. not-barred (entry-state s)) (λ s n. not-barred (entry-cells s n)) (λ f. f)
+    where
+      not-barred : {P : Type 0} {n : Refusal} → entry p r l ≡ Barred n → P
+      not-barred b = let z : _≡_ {A = ℕ} 0 1 = cc in absurd (omega arith)
+
+  -- ---- the ladder
+
+  module _ (fails : Bool) (own : Refusal) (taken : Outcome) where
+    pub ladder-barred : (n : Refusal) → entry p r l ≡ Barred n → ladder p r l fails own taken ≡ refused n r l
+    unfolding ladder climbed
+    ladder-barred n e = rw e
+
+    pub ladder-own : entry p r l ≡ Admitted → fails ≡ true → ladder p r l fails own taken ≡ refused own r l
+    unfolding ladder climbed
+    ladder-own e f = rw (e, f)
+
+    pub ladder-taken : entry p r l ≡ Admitted → fails ≡ false → ladder p r l fails own taken ≡ taken
+    unfolding ladder climbed
+    ladder-taken e f = rw (e, f)
+
+    -- what holds of every refusal and of the event that is taken holds of the event
+    pub by-ladder : (P : Outcome → Type 0) → (sound p r ≡ false → P (refused State r l)) → P (refused Cells r l) → (Fit p r l → P (refused own r l))
+        → (Fit p r l → fails ≡ false → P taken) → P (ladder p r l fails own taken)
+    by-ladder P f g h k =
+        by-entry (λ s. rw (ladder-barred State (entry-state s)) (f s)) (λ s n. rw (ladder-barred Cells (entry-cells s n)) g)
+        (λ fit. by-cases fails (λ t. rw (ladder-own (entry-admitted fit) t) (h fit)) (λ t. rw (ladder-taken (entry-admitted fit) t) (k fit t)))
