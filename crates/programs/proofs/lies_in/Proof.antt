@@ -1,0 +1,12 @@
+use borrow.Author.Needs.{needs}
+use Rattle.plain.specs.Programs.{liesIn}
+use Rattle.programs.proofs.lies_in.Statement.{statement}
+use Rattle.programs.proofs.lies_in.Tie as tie
+
+pub lies-in-spec : {M : Type 1} → statement M
+unfolding liesIn
+lies-in-spec =
+    tie.close
+    (tie.spec
+    (λ c κs. search needs)  -- words-requires
+    (λ c. rw (c .before .words .ensures)))  -- returns
