@@ -1,15 +1,14 @@
--- What had begun by the record is what had begun by the history; it is one word and one block at most, apart and unprotected.
-use Prim.Native.Nat.{ℕ, _-_, _<_, _≤_}
+-- What had begun by the record is what had begun by the history; it is one program and one block at most, apart and unprotected.
+use Prim.Native.Nat.{ℕ, _-_, _<_}
 use mathlib.Core.Path.{_≡_, refl, sym, ap, _∙_}
 use mathlib.Core.Bool.{Bool, true, false}
 use native.Mathlib.Omega.{arith}
-use lib.Dec.{ltb}
 use borrow.Author.Tests.{ltb-true, lt-ltb}
 use Rattle.blocks.specs.Blocks.{has}
 use Rattle.geometry.specs.declared.Part.{Part}
-use Rattle.geometry.specs.Parts.{wordCount, blockOf}
 use Rattle.protection.specs.declared.Protection.{Protection}
 use Rattle.protection.specs.Protection.{protected}
+use Rattle.plain.specs.declared.Written.{Written}
 use Rattle.plain.specs.declared.Program.{Program}
 use Rattle.plain.specs.declared.Erase.{Erase}
 use Rattle.plain.specs.declared.Inside.{Inside}
@@ -18,68 +17,70 @@ use Rattle.plain.specs.declared.SuspendedErase.{SuspendedErase}
 use Rattle.plain.specs.declared.Operation.{Operation}
 use Rattle.plain.specs.declared.Operation.the-variants.{Idle, Programming, ProgramSuspended, Window, Erasing, EraseSuspended, ChipErasing}
 use Rattle.plain.specs.declared.Place.{Place}
-use Rattle.plain.specs.declared.Place.the-variants.{Nowhere, At}
+use Rattle.plain.specs.declared.Place.the-variants.{At}
+use Rattle.plain.specs.declared.BegunProgram.{BegunProgram}
+use Rattle.plain.specs.declared.BegunProgram.the-variants.{Writes}
 use Rattle.plain.specs.Choice.{if_then_else_}
 use Rattle.plain.specs.Figures.{programTime, eraseTime, chipTime}
+use Rattle.plain.specs.Programs.{liesIn, blockWritten}
 use Rattle.plain.specs.Sound.{operationSound}
-use Rattle.plain.specs.Cut.{begun, ifBegun, begunBlock, begunInside, begunWord, insideWord, programWord}
+use Rattle.plain.specs.Cut.{begun, ifBegun, begunBlock, programBegun, begunInside, begunProgram}
 use Rattle.plain.specs.History.{Doing, programs, pauses, erases, wipes, rests, programsIn}
 use Rattle.plain.specs.Promises.{ProgramBegun, EraseBegun}
 use Rattle.plain.specs.Promises as said
 use Rattle.plain.proofs.Tools.{by-test, clash}
-use Rattle.plain.proofs.CutCells.{nowhere}
+use Rattle.plain.proofs.CutCells.{nowhere, no-program}
 use Rattle.plain.proofs.Facts.{ProgramFacts, EraseFacts, programming, program-suspended, erasing, erase-suspended, chip-erasing, inside-runs}
 use Rattle.history.proofs.Seen.{seenInside, seenOp}
 
--- ---- a place that is there
+-- ---- a block, or a program, that has begun
 
-pub record There (l full at a : ℕ) : Type 0 where
-  pub time : l < full
-  pub place : at ≡ a
+record There (left full b a : ℕ) : Type 0 where
+  time : 0 < full - left
+  place : b ≡ a
 
-there : (l full at a : ℕ) → ifBegun l full at ≡ At a → There l full at a
-there l full at a =
-    by-test (λ (x : Place). x ≡ At a → There l full at a) (begun l full)
-    (λ t e. record { time = ltb-true l full t; place = cc }) (λ t e. nowhere e)
+there : (left full b a : ℕ) → ifBegun left full b ≡ At a → There left full b a
+there left full b a =
+    by-test (λ (x : Place). x ≡ At a → There left full b a) (begun left full)
+    (λ t e. record { time = omega (arith, ltb-true left full t); place = cc }) (λ t e. nowhere e)
 
-here : (l full at : ℕ) → 0 < full - l → ifBegun l full at ≡ At at
-here l full at g = rw (lt-ltb l full (omega arith))
+here : (left full b : ℕ) → 0 < full - left → ifBegun left full b ≡ At b
+here left full b g = rw (lt-ltb left full (omega arith))
 
-gone : (l full : ℕ) → l < full → 0 < full - l
-gone l full h = omega arith
+record Begins (p : Part) (q : Program) (d : Written) : Type 0 where
+  time : 0 < programTime p - q .left
+  what : q .writes ≡ d
 
--- ---- the record's begun word and block are the history's
+begins : (p : Part) (q : Program) (d : Written) → programBegun p q ≡ Writes d → Begins p q d
+begins p q d =
+    by-test (λ (x : BegunProgram). x ≡ Writes d → Begins p q d) (begun (q .left) (programTime p))
+    (λ t e. record { time = omega (arith, ltb-true (q .left) (programTime p) t); what = cc }) (λ t e. no-program e)
+
+writing : (p : Part) (q : Program) → 0 < programTime p - q .left → programBegun p q ≡ Writes (q .writes)
+writing p q g = rw (lt-ltb (q .left) (programTime p) (omega arith))
+
+-- ---- the record's begun program and block are the history's
 
 module _ (p : Part) where
-  inside-word-told : (e : Erase) (i : Inside) (a : ℕ) → begunInside p i ≡ At a → ProgramBegun (seenInside p e i) a (insideWord i)
-  unfolding begunInside seenInside insideWord
-  inside-word-told e Nothing a d = nowhere d
-  inside-word-told e (Runs q) a d =
-      let t = there (q .left) (programTime p) (q .at) a d in
-      rw (← t .place) (said.inside (gone (q .left) (programTime p) (t .time)))
+  inside-program-told : (e : Erase) (i : Inside) (d : Written) → begunInside p i ≡ Writes d → ProgramBegun (seenInside p e i) d
+  unfolding begunInside seenInside
+  inside-program-told e Nothing d h = no-program h
+  inside-program-told e (Runs q) d h = let b = begins p q d h in rw (← b .what) (said.inside (b .time))
 
-  pub word-told : (o : Operation) (a : ℕ) → begunWord p o ≡ At a → ProgramBegun (seenOp p o) a (programWord o)
-  unfolding begunWord seenOp programWord
-  word-told Idle a d = nowhere d
-  word-told (Programming q) a d =
-      let t = there (q .left) (programTime p) (q .at) a d in
-      rw (← t .place) (said.ProgramBegun.running (gone (q .left) (programTime p) (t .time)))
-  word-told (ProgramSuspended q) a d =
-      let t = there (q .left) (programTime p) (q .at) a d in
-      rw (← t .place) (said.paused (gone (q .left) (programTime p) (t .time)))
-  word-told (Window e) a d = nowhere d
-  word-told (Erasing e) a d = nowhere d
-  word-told (EraseSuspended x) a d = inside-word-told (x .erase) (x .inside) a d
-  word-told (ChipErasing e) a d = nowhere d
+  pub program-told : (o : Operation) (d : Written) → begunProgram p o ≡ Writes d → ProgramBegun (seenOp p o) d
+  unfolding begunProgram seenOp
+  program-told Idle d h = no-program h
+  program-told (Programming q) d h = let b = begins p q d h in rw (← b .what) (said.ProgramBegun.running (b .time))
+  program-told (ProgramSuspended q) d h = let b = begins p q d h in rw (← b .what) (said.paused (b .time))
+  program-told (Window e) d h = no-program h
+  program-told (Erasing e) d h = no-program h
+  program-told (EraseSuspended x) d h = inside-program-told (x .erase) (x .inside) d h
+  program-told (ChipErasing e) d h = no-program h
 
   inside-block-told : (e : Erase) (i : Inside) (b : ℕ) → ifBegun (e .left) (eraseTime p) (e .hand) ≡ At b → EraseBegun (seenInside p e i) b
   unfolding seenInside
-  inside-block-told e Nothing b d =
-      let t = there (e .left) (eraseTime p) (e .hand) b d in
-      rw (← t .place) (said.resting (gone (e .left) (eraseTime p) (t .time)))
-  inside-block-told e (Runs q) b d =
-      let t = there (e .left) (eraseTime p) (e .hand) b d in
-      rw (← t .place) (said.around (gone (e .left) (eraseTime p) (t .time)))
+  inside-block-told e Nothing b d = let t = there (e .left) (eraseTime p) (e .hand) b d in rw (← t .place) (said.resting (t .time))
+  inside-block-told e (Runs q) b d = let t = there (e .left) (eraseTime p) (e .hand) b d in rw (← t .place) (said.around (t .time))
 
   pub block-told : (o : Operation) (b : ℕ) → begunBlock p o ≡ At b → EraseBegun (seenOp p o) b
   unfolding begunBlock seenOp
@@ -89,33 +90,21 @@ module _ (p : Part) where
   block-told (Window e) b d = nowhere d
   block-told (Erasing e) b d =
       let t = there (e .left) (eraseTime p) (e .hand) b d in
-      rw (← t .place) (said.EraseBegun.running (gone (e .left) (eraseTime p) (t .time)))
+      rw (← t .place) (said.EraseBegun.running (t .time))
   block-told (EraseSuspended x) b d = inside-block-told (x .erase) (x .inside) b d
-  block-told (ChipErasing e) b d =
-      let t = there (e .left) (chipTime p) (e .hand) b d in
-      rw (← t .place) (said.wiping (gone (e .left) (chipTime p) (t .time)))
+  block-told (ChipErasing e) b d = let t = there (e .left) (chipTime p) (e .hand) b d in rw (← t .place) (said.wiping (t .time))
 
   -- ---- and back
 
-  pub record WordIs (o : Operation) (a w : ℕ) : Type 0 where
-    pub at : begunWord p o ≡ At a
-    pub word : programWord o ≡ w
+  inside-program-is : (e : Erase) (i : Inside) (d : Written) → ProgramBegun (seenInside p e i) d → begunInside p i ≡ Writes d
+  unfolding seenInside begunInside
+  inside-program-is e (Runs q) d (said.inside g) = writing p q g
 
-  record InsideIs (i : Inside) (a w : ℕ) : Type 0 where
-    at : begunInside p i ≡ At a
-    word : insideWord i ≡ w
-
-  inside-word-is : (e : Erase) (i : Inside) (a w : ℕ) → ProgramBegun (seenInside p e i) a w → InsideIs i a w
-  unfolding seenInside begunInside insideWord
-  inside-word-is e (Runs q) a w (said.inside g) = record { at = here (q .left) (programTime p) (q .at) g; word = refl }
-
-  pub word-is : (o : Operation) (a w : ℕ) → ProgramBegun (seenOp p o) a w → WordIs o a w
-  unfolding seenOp begunWord programWord
-  word-is (Programming q) a w (said.ProgramBegun.running g) = record { at = here (q .left) (programTime p) (q .at) g; word = refl }
-  word-is (ProgramSuspended q) a w (said.paused g) = record { at = here (q .left) (programTime p) (q .at) g; word = refl }
-  word-is (EraseSuspended x) a w g =
-      let i = inside-word-is (x .erase) (x .inside) a w g in
-      record { at = i .at; word = i .word }
+  pub program-is : (o : Operation) (d : Written) → ProgramBegun (seenOp p o) d → begunProgram p o ≡ Writes d
+  unfolding seenOp begunProgram
+  program-is (Programming q) d (said.ProgramBegun.running g) = writing p q g
+  program-is (ProgramSuspended q) d (said.paused g) = writing p q g
+  program-is (EraseSuspended x) d g = inside-program-is (x .erase) (x .inside) d g
 
   inside-block-is : (e : Erase) (i : Inside) (b : ℕ) → EraseBegun (seenInside p e i) b → ifBegun (e .left) (eraseTime p) (e .hand) ≡ At b
   unfolding seenInside
@@ -130,48 +119,44 @@ module _ (p : Part) where
 
   -- ---- at most one of each
 
-  pub same-word : (d : Doing) {x y v w : ℕ} → ProgramBegun d x v → ProgramBegun d y w → x ≡ y
-  same-word (programs a w g) (said.ProgramBegun.running u) (said.ProgramBegun.running v) = refl
-  same-word (pauses a w g) (said.paused u) (said.paused v) = refl
-  same-word (programsIn a w g l b eg) (said.inside u) (said.inside v) = refl
+  pub same-program : (h : Doing) {d e : Written} → ProgramBegun h d → ProgramBegun h e → d ≡ e
+  same-program (programs d g) (said.ProgramBegun.running u) (said.ProgramBegun.running v) = refl
+  same-program (pauses d g) (said.paused u) (said.paused v) = refl
+  same-program (programsIn d g l b eg) (said.inside u) (said.inside v) = refl
 
-  pub same-block : (d : Doing) {b c : ℕ} → EraseBegun d b → EraseBegun d c → b ≡ c
+  pub same-block : (h : Doing) {b c : ℕ} → EraseBegun h b → EraseBegun h c → b ≡ c
   same-block (erases l b g) (said.EraseBegun.running u) (said.EraseBegun.running v) = refl
   same-block (wipes l b g) (said.wiping u) (said.wiping v) = refl
   same-block (rests l b g) (said.resting u) (said.resting v) = refl
-  same-block (programsIn a w pg l b g) (said.around u) (said.around v) = refl
+  same-block (programsIn d pg l b g) (said.around u) (said.around v) = refl
 
-  -- ---- by soundness the word and the block are apart, in the part, and unprotected
+  -- ---- by soundness the program and the block are apart, in the part, and unprotected
 
   module _ (bits : Protection) where
-    pub record WordFree (a : ℕ) : Type 0 where
-      pub inside : a < wordCount p
-      pub free : protected bits (blockOf p a) ≡ false
+    pub record ProgramFree (d : Written) : Type 0 where
+      pub lies : liesIn p d ≡ true
+      pub free : protected bits (blockWritten p d) ≡ false
 
-    word-free-of : (q : Program) (a : ℕ) → ProgramFacts p bits q → ifBegun (q .left) (programTime p) (q .at) ≡ At a → WordFree a
-    word-free-of q a f d =
-        let t = there (q .left) (programTime p) (q .at) a d in
-        rw (← t .place) (record { inside = f .in-part; free = f .unprotected })
+    free-of : (q : Program) (d : Written) → ProgramFacts p bits q → programBegun p q ≡ Writes d → ProgramFree d
+    free-of q d f e = rw (← begins p q d e .what) (record { lies = f .in-part; free = f .unprotected })
 
-    inside-word-free : (x : SuspendedErase) (i : Inside) → x .inside ≡ i → operationSound p bits (EraseSuspended x) ≡ true → (a : ℕ) → begunInside p i ≡ At a → WordFree a
+    inside-free : (x : SuspendedErase) (i : Inside) → x .inside ≡ i → operationSound p bits (EraseSuspended x) ≡ true → (d : Written) → begunInside p i ≡ Writes d → ProgramFree d
     unfolding begunInside
-    inside-word-free x Nothing d s a e = nowhere e
-    inside-word-free x (Runs q) d s a e = word-free-of q a (inside-runs p bits x q s d .program) e
+    inside-free x Nothing t s d e = no-program e
+    inside-free x (Runs q) t s d e = free-of q d (inside-runs p bits x q s t .program) e
 
-    pub word-free : (o : Operation) → operationSound p bits o ≡ true → (a : ℕ) → begunWord p o ≡ At a → WordFree a
-    unfolding begunWord
-    word-free Idle s a e = nowhere e
-    word-free (Programming q) s a e = word-free-of q a (programming p bits q s) e
-    word-free (ProgramSuspended q) s a e = word-free-of q a (program-suspended p bits q s) e
-    word-free (Window x) s a e = nowhere e
-    word-free (Erasing x) s a e = nowhere e
-    word-free (EraseSuspended x) s a e = inside-word-free x (x .inside) refl s a e
-    word-free (ChipErasing x) s a e = nowhere e
+    pub program-free : (o : Operation) → operationSound p bits o ≡ true → (d : Written) → begunProgram p o ≡ Writes d → ProgramFree d
+    unfolding begunProgram
+    program-free Idle s d e = no-program e
+    program-free (Programming q) s d e = free-of q d (programming p bits q s) e
+    program-free (ProgramSuspended q) s d e = free-of q d (program-suspended p bits q s) e
+    program-free (Window x) s d e = no-program e
+    program-free (Erasing x) s d e = no-program e
+    program-free (EraseSuspended x) s d e = inside-free x (x .inside) refl s d e
+    program-free (ChipErasing x) s d e = no-program e
 
-    block-free-of : (e : Erase) (full b : ℕ) → EraseFacts bits e full → ifBegun (e .left) full (e .hand) ≡ At b → protected bits b ≡ false
-    block-free-of e full b f d =
-        let t = there (e .left) full (e .hand) b d in
-        rw (← t .place) (f .unprotected (e .hand) (f .hand-listed))
+    block-free-of : (e : Erase) (full b : ℕ) → EraseFacts p bits e full → ifBegun (e .left) full (e .hand) ≡ At b → protected bits b ≡ false
+    block-free-of e full b f d = rw (← there (e .left) full (e .hand) b d .place) (f .unprotected (e .hand) (f .hand-listed))
 
     pub block-free : (o : Operation) → operationSound p bits o ≡ true → (b : ℕ) → begunBlock p o ≡ At b → protected bits b ≡ false
     unfolding begunBlock
@@ -183,22 +168,21 @@ module _ (p : Part) where
     block-free (EraseSuspended x) s b e = block-free-of (x .erase) (eraseTime p) b (erase-suspended p bits x s .erase) e
     block-free (ChipErasing x) s b e = block-free-of x (chipTime p) b (chip-erasing p bits x s) e
 
-    inside-apart : (x : SuspendedErase) (i : Inside) → x .inside ≡ i → operationSound p bits (EraseSuspended x) ≡ true → (a b : ℕ) → begunInside p i ≡ At a
-        → ifBegun (x .erase .left) (eraseTime p) (x .erase .hand) ≡ At b → blockOf p a ≡ b → ⊥
+    inside-apart : (x : SuspendedErase) (i : Inside) → x .inside ≡ i → operationSound p bits (EraseSuspended x) ≡ true → (d : Written) (b : ℕ) → begunInside p i ≡ Writes d
+        → ifBegun (x .erase .left) (eraseTime p) (x .erase .hand) ≡ At b → blockWritten p d ≡ b → ⊥
     unfolding begunInside
-    inside-apart x Nothing d s a b e f g = nowhere e
-    inside-apart x (Runs q) d s a b e f g =
-        let t = there (q .left) (programTime p) (q .at) a e in
+    inside-apart x Nothing t s d b e f g = no-program e
+    inside-apart x (Runs q) t s d b e f g =
         let u = there (x .erase .left) (eraseTime p) (x .erase .hand) b f in
-        let block : blockOf p (q .at) ≡ x .erase .hand = ap (blockOf p) (t .place) ∙ g ∙ sym (u .place) in
-        clash (erase-suspended p bits x s .erase .hand-listed) (ap (has (x .erase .list)) (sym block) ∙ inside-runs p bits x q s d .off-list)
+        let block : blockWritten p (q .writes) ≡ x .erase .hand = ap (blockWritten p) (begins p q d e .what) ∙ g ∙ sym (u .place) in
+        clash (erase-suspended p bits x s .erase .hand-listed) (ap (has (x .erase .list)) (sym block) ∙ inside-runs p bits x q s t .off-list)
 
-    pub apart : (o : Operation) → operationSound p bits o ≡ true → (a b : ℕ) → begunWord p o ≡ At a → begunBlock p o ≡ At b → blockOf p a ≡ b → ⊥
-    unfolding begunWord begunBlock
-    apart Idle s a b e f g = nowhere e
-    apart (Programming q) s a b e f g = nowhere f
-    apart (ProgramSuspended q) s a b e f g = nowhere f
-    apart (Window x) s a b e f g = nowhere e
-    apart (Erasing x) s a b e f g = nowhere e
-    apart (EraseSuspended x) s a b e f g = inside-apart x (x .inside) refl s a b e f g
-    apart (ChipErasing x) s a b e f g = nowhere e
+    pub apart : (o : Operation) → operationSound p bits o ≡ true → (d : Written) (b : ℕ) → begunProgram p o ≡ Writes d → begunBlock p o ≡ At b → blockWritten p d ≡ b → ⊥
+    unfolding begunProgram begunBlock
+    apart Idle s d b e f g = no-program e
+    apart (Programming q) s d b e f g = nowhere f
+    apart (ProgramSuspended q) s d b e f g = nowhere f
+    apart (Window x) s d b e f g = no-program e
+    apart (Erasing x) s d b e f g = no-program e
+    apart (EraseSuspended x) s d b e f g = inside-apart x (x .inside) refl s d b e f g
+    apart (ChipErasing x) s d b e f g = no-program e

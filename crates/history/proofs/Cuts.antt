@@ -1,30 +1,33 @@
 -- An accepted cut: each word holds what the facts of the history give it.
-use Prim.Native.Nat.{ℕ, zero, suc, _+_, _-_, _<_, _≤_}
+use Prim.Native.Nat.{ℕ, _+_, _-_, _≤_}
 use mathlib.Core.Path.{_≡_, refl, sym, ap, _∙_}
 use mathlib.Core.Bool.{Bool, true, false}
-use mathlib.Core.List.{List, [], _∷_}
+use mathlib.Core.List.{List}
 use native.Mathlib.Omega.{arith}
 use lib.Dec.{ltb}
-use lib.ListN.{length, getD}
+use lib.ListN.{length, drop}
 use borrow.Author.Tests.{ltb-true, ltb-false, lt-ltb, le-ltb}
 use Rattle.geometry.specs.declared.Part.{Part}
-use Rattle.geometry.specs.Parts.{wordCount, sizeOf, firstOf}
-use Rattle.plain.proofs.CutCells.{length-block}
-use Rattle.plain.specs.declared.Erase.{Erase}
+use Rattle.geometry.specs.Parts.{wordCount, sizeOf}
+use Rattle.protection.specs.declared.Protection.{Protection}
+use Rattle.plain.specs.declared.Program.{Program}
 use Rattle.plain.specs.declared.Inside.{Inside}
 use Rattle.plain.specs.declared.Inside.the-variants.{Nothing, Runs}
+use Rattle.plain.specs.declared.SuspendedErase.{SuspendedErase}
 use Rattle.plain.specs.declared.Operation.{Operation}
 use Rattle.plain.specs.declared.Operation.the-variants.{Idle, Programming, ProgramSuspended, Window, Erasing, EraseSuspended, ChipErasing}
 use Rattle.plain.specs.declared.Place.{Place}
-use Rattle.plain.specs.declared.Place.the-variants.{Nowhere, At}
 use Rattle.plain.specs.Choice.{if_then_else_}
 use Rattle.plain.specs.Figures.{programTime, eraseTime, chipTime}
-use Rattle.plain.specs.Cut.{begun, ifBegun, begunBlock, begunInside, begunWord, insideWord, programWord, blockDebris, wordDebris, debrisNeeded, blockCut, wordCut, cutCells}
+use Rattle.plain.specs.Lent.{Lent}
+use Rattle.plain.specs.Sound.{operationSound}
+use Rattle.plain.specs.Cut.{begun, ifBegun, begunBlock, programBegun, begunInside, begunProgram, blockDebris, programDebris, debrisNeeded, blockCut, programCut, cutLent}
 use Rattle.plain.specs.History.{Fact, eraseCuts, programCuts, cuts}
+use Rattle.plain.proofs.CutCells.{length-block}
+use Rattle.plain.proofs.Facts.{ProgramFacts, programming, program-suspended, inside-runs}
 use Rattle.plain.proofs.Tools.{by-cases}
 use Rattle.history.proofs.Seen.{seenInside, seenOp}
 use Rattle.history.proofs.Holds.{Holds, holds-cut-program, holds-cut-erase}
-use Rattle.history.proofs.Times.{Fit, programming, resting, erasing, suspends, wiping, InsideFit, runs}
 
 -- some time has gone exactly when the time left is below the full time
 pub progress : (l full : ℕ) → ltb 0 (full - l) ≡ begun l full
@@ -32,45 +35,47 @@ progress l full =
     by-cases (begun l full) (λ e. lt-ltb 0 (full - l) (omega (arith, ltb-true l full e)) ∙ sym e)
     (λ e. le-ltb 0 (full - l) (omega (arith, ltb-false l full e)) ∙ sym e)
 
-module _ (p : Part) (debris : List ℕ) where
-  debris-of : (l full b : ℕ) → blockDebris p (ifBegun l full b) ≡ (if ltb 0 (full - l) then sizeOf p b else 0)
+module _ (p : Part) (bits : Protection) where
+  abbrev block-of : SuspendedErase → Place
+  block-of x = ifBegun (x .erase .left) (eraseTime p) (x .erase .hand)
+
+  debris-of : (left full b : ℕ) → blockDebris p (ifBegun left full b) ≡ (if ltb 0 (full - left) then sizeOf p b else 0)
   unfolding blockDebris
-  debris-of l full b = rw (progress l full) (by-cases (begun l full) (λ e. rw e) (λ e. rw e))
+  debris-of left full b = rw (progress left full) (by-cases (begun left full) (λ e. rw e) (λ e. rw e))
 
-  module _ (start : List ℕ) where
-    block-holds : (fs : List Fact) (cells : List ℕ) (l full b : ℕ) → length cells ≡ wordCount p → blockDebris p (ifBegun l full b) ≤ length debris → Holds p start fs cells
-        → Holds p start (eraseCuts (full - l) b debris fs) (blockCut p (ifBegun l full b) debris cells)
+  module _ (start : Lent) where
+    block-holds : (debris : List ℕ) (fs : List Fact) (l : Lent) (left full b : ℕ) → length (l .cells) ≡ wordCount p → blockDebris p (ifBegun left full b) ≤ length debris → Holds p start fs l
+        → Holds p start (eraseCuts (full - left) b debris fs) (blockCut p (ifBegun left full b) debris l)
     unfolding blockDebris blockCut
-    block-holds fs cells l full b long enough h =
-        rw (progress l full)
-        (by-cases (begun l full) (λ e. rw e (holds-cut-erase p start fs cells long h b debris (rw e at enough))) (λ e. rw e h))
+    block-holds debris fs l left full b long enough h =
+        rw (progress left full)
+        (by-cases (begun left full) (λ e. rw e (holds-cut-erase p start fs l long h b debris (rw e at enough))) (λ e. rw e h))
 
-    word-holds : (fs : List Fact) (cells : List ℕ) (l a w d : ℕ) → length cells ≡ wordCount p → a < wordCount p → Holds p start fs cells
-        → Holds p start (programCuts (programTime p - l) a w d fs) (wordCut (ifBegun l (programTime p) a) w d cells)
-    unfolding wordCut
-    word-holds fs cells l a w d long ha h =
-        rw (progress l (programTime p))
-        (by-cases (begun l (programTime p)) (λ e. rw e (holds-cut-program p start fs cells long h a w d ha)) (λ e. rw e h))
+    program-holds : (debris : List ℕ) (fs : List Fact) (l : Lent) (q : Program) → length (l .cells) ≡ wordCount p → ProgramFacts p bits q → Holds p start fs l
+        → Holds p start (programCuts (programTime p - q .left) (q .writes) debris fs) (programCut (programBegun p q) debris l)
+    unfolding programCut
+    program-holds debris fs l q long f h =
+        rw (progress (q .left) (programTime p))
+        (by-cases (begun (q .left) (programTime p)) (λ e. rw e (holds-cut-program p start fs l long h (q .writes) debris (f .in-part))) (λ e. rw e h))
 
-    inside-holds : (e : Erase) (i : Inside) → InsideFit p i → (fs : List Fact) (cells : List ℕ) → length cells ≡ wordCount p
-        → blockDebris p (ifBegun (e .left) (eraseTime p) (e .hand)) ≤ length debris → Holds p start fs cells
-        → Holds p start (cuts p (seenInside p e i) debris fs)
-        (wordCut (begunInside p i) (insideWord i) (getD debris (blockDebris p (ifBegun (e .left) (eraseTime p) (e .hand))) 0) (blockCut p (ifBegun (e .left) (eraseTime p) (e .hand)) debris cells))
-    unfolding cuts seenInside begunInside insideWord wordCut
-    inside-holds e Nothing f fs cells long enough h = block-holds fs cells (e .left) (eraseTime p) (e .hand) long enough h
-    inside-holds e (Runs q) (runs f) fs cells long enough h =
-        rw (debris-of (e .left) (eraseTime p) (e .hand))
-        (word-holds (eraseCuts (eraseTime p - e .left) (e .hand) debris fs) (blockCut p (ifBegun (e .left) (eraseTime p) (e .hand)) debris cells) (q .left) (q .at) (q .word) _
-        (length-block p debris cells long (ifBegun (e .left) (eraseTime p) (e .hand)) enough ∙ long) (f .inside)
-        (block-holds fs cells (e .left) (eraseTime p) (e .hand) long enough h))
+    inside-holds : (debris : List ℕ) (x : SuspendedErase) (i : Inside) → x .inside ≡ i → operationSound p bits (EraseSuspended x) ≡ true → (fs : List Fact) (l : Lent)
+        → length (l .cells) ≡ wordCount p → blockDebris p (block-of x) ≤ length debris → Holds p start fs l
+        → Holds p start (cuts p (seenInside p (x .erase) i) debris fs) (programCut (begunInside p i) (drop (blockDebris p (block-of x)) debris) (blockCut p (block-of x) debris l))
+    unfolding cuts seenInside begunInside programCut
+    inside-holds debris x Nothing d s fs l long enough h = block-holds debris fs l (x .erase .left) (eraseTime p) (x .erase .hand) long enough h
+    inside-holds debris x (Runs q) d s fs l long enough h =
+        rw (debris-of (x .erase .left) (eraseTime p) (x .erase .hand))
+        (program-holds _ (eraseCuts (eraseTime p - x .erase .left) (x .erase .hand) debris fs) (blockCut p (block-of x) debris l) q
+        (length-block p debris l long (block-of x) enough ∙ long) (inside-runs p bits x q s d .program)
+        (block-holds debris fs l (x .erase .left) (eraseTime p) (x .erase .hand) long enough h))
 
-    pub cut-holds : (o : Operation) → Fit p o → (fs : List Fact) (cells : List ℕ) → length cells ≡ wordCount p → debrisNeeded p o ≤ length debris → Holds p start fs cells
-        → Holds p start (cuts p (seenOp p o) debris fs) (cutCells p o debris cells)
-    unfolding cuts seenOp cutCells debrisNeeded begunBlock begunWord programWord wordCut blockCut blockDebris
-    cut-holds Idle f fs cells long enough h = h
-    cut-holds (Programming q) (programming f) fs cells long enough h = word-holds fs cells (q .left) (q .at) (q .word) (getD debris 0 0) long (f .inside) h
-    cut-holds (ProgramSuspended q) (resting f) fs cells long enough h = word-holds fs cells (q .left) (q .at) (q .word) (getD debris 0 0) long (f .inside) h
-    cut-holds (Window e) f fs cells long enough h = h
-    cut-holds (Erasing e) (erasing f) fs cells long enough h = block-holds fs cells (e .left) (eraseTime p) (e .hand) long (omega (arith, enough)) h
-    cut-holds (EraseSuspended x) (suspends f i) fs cells long enough h = inside-holds (x .erase) (x .inside) i fs cells long (omega (arith, enough)) h
-    cut-holds (ChipErasing e) (wiping f) fs cells long enough h = block-holds fs cells (e .left) (chipTime p) (e .hand) long (omega (arith, enough)) h
+    pub cut-holds : (debris : List ℕ) (o : Operation) → operationSound p bits o ≡ true → (fs : List Fact) (l : Lent) → length (l .cells) ≡ wordCount p → debrisNeeded p o ≤ length debris → Holds p start fs l
+        → Holds p start (cuts p (seenOp p o) debris fs) (cutLent p o debris l)
+    unfolding cuts seenOp cutLent debrisNeeded begunBlock begunProgram programCut blockCut blockDebris
+    cut-holds debris Idle f fs l long enough h = h
+    cut-holds debris (Programming q) f fs l long enough h = program-holds debris fs l q long (programming p bits q f) h
+    cut-holds debris (ProgramSuspended q) f fs l long enough h = program-holds debris fs l q long (program-suspended p bits q f) h
+    cut-holds debris (Window e) f fs l long enough h = h
+    cut-holds debris (Erasing e) f fs l long enough h = block-holds debris fs l (e .left) (eraseTime p) (e .hand) long (omega (arith, enough)) h
+    cut-holds debris (EraseSuspended x) f fs l long enough h = inside-holds debris x (x .inside) refl f fs l long (omega (arith, enough)) h
+    cut-holds debris (ChipErasing e) f fs l long enough h = block-holds debris fs l (e .left) (chipTime p) (e .hand) long (omega (arith, enough)) h

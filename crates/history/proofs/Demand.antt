@@ -1,92 +1,99 @@
 -- Demand 3, proved: what an accepted cut leaves, after any run of a fresh device; and what the history says of words and charge.
-use Prim.Native.Nat.{ℕ, _+_, _-_, _<_, _≤_}
+use Prim.Native.Nat.{ℕ, _-_, _<_, _≤_}
 use mathlib.Core.Path.{_≡_, refl, sym, ap, _∙_, subst}
-use mathlib.Core.Bool.{Bool, true, false, not, cond}
-use mathlib.Core.List.{List, [], _∷_}
+use mathlib.Core.Bool.{Bool, true, false}
+use mathlib.Core.List.{List, []}
 use native.Mathlib.Omega.{arith}
-use lib.Bits.{bitAnd, bitOr}
-use lib.Dec.{ltb, eqb}
 use lib.ListN.{length, getD}
-use borrow.Author.Tests.{not-false, eqb-true, eq-eqb, ne-eqb, ltb-false}
-use Rattle.blocks.specs.Blocks.{emptyOf}
+use borrow.Author.Tests.{ltb-false}
 use Rattle.cells.specs.Bits.{Partly}
 use Rattle.cells.proofs.Bits.{partly}
 use Rattle.geometry.specs.declared.Part.{Part}
-use Rattle.geometry.specs.Parts.{wordCount, blockOf, firstOf, sizeOf}
+use Rattle.geometry.specs.Parts.{wordCount, blockOf, firstOf}
 use Rattle.protection.specs.Protection.{protected}
-use Rattle.plain.specs.declared.Refusal.the-variants.{Done, State, Cells, Debris}
-use Rattle.plain.specs.declared.Operation.{Operation}
-use Rattle.plain.specs.declared.Place.{Place}
-use Rattle.plain.specs.declared.Place.the-variants.{Nowhere, At}
+use Rattle.plain.specs.declared.Refusal.{Refusal}
+use Rattle.plain.specs.declared.Refusal.the-variants.{Done, Debris}
+use Rattle.plain.specs.declared.Written.{Written}
+use Rattle.plain.specs.declared.Place.the-variants.{At}
+use Rattle.plain.specs.declared.BegunProgram.the-variants.{Writes}
 use Rattle.plain.specs.declared.Device.{Device}
-use Rattle.plain.specs.Choice.{if_then_else_}
 use Rattle.plain.specs.Events.{Event, cut}
-use Rattle.plain.specs.Record.{answer, fresh}
-use Rattle.plain.specs.Sound.{sound, operationSound}
-use Rattle.plain.specs.Cut.{begunBlock, begunWord, programWord, blockDebris, wordDebris, debrisNeeded, blockCut, wordCut, cutCells, cutDevice}
-use Rattle.plain.specs.Machine.{Outcome, outcome, cutEvent, step, run}
-use Rattle.plain.specs.History.{Fact, Told, history, untold, told, holds}
-use Rattle.plain.specs.Promises.{ProgramBegun, EraseBegun, Left, Demand3, Holding, Metered, ChargeByHistory}
-use Rattle.plain.proofs.Tools.{by-test, by-cases, clash}
-use Rattle.plain.proofs.CutCells.{length-block, word-out, word-hit, block-out, block-hit, block-enough, length-cut, untouched}
+use Rattle.plain.specs.Lent.{Lent, cellAt}
+use Rattle.plain.specs.Programs.{writes, datum}
+use Rattle.plain.specs.Record.{fresh}
+use Rattle.plain.specs.Sound.{operationSound}
+use Rattle.plain.specs.Cut.{begunBlock, begunProgram, blockDebris, debrisNeeded, blockCut, programCut, cutLent}
+use Rattle.plain.specs.Machine.{Outcome, cutTaken, cutEvent, step, run}
+use Rattle.plain.specs.History.{Fact, Told, holds}
+use Rattle.plain.specs.Promises.{ProgramBegun, EraseBegun, Left, Demand3, Holding, ChargeByHistory}
+use Rattle.plain.proofs.Tools.{by-cases, clash}
+use Rattle.plain.proofs.CutCells.{Lies, program-out, program-hit, block-out, block-hit, block-enough, block-size, length-cut, untouched}
 use Rattle.plain.proofs.Facts.{sound-operation}
+use Rattle.plain.proofs.Ladder.{Fit, by-ladder}
+use Rattle.plain.proofs.Programs.{written-in-block, one-written}
 use Rattle.history.proofs.Seen.{seenOp, seen}
 use Rattle.history.proofs.Holds.{Holds}
 use Rattle.history.proofs.Runs.{run-told}
-use Rattle.history.proofs.Begun.{word-told, block-told, word-is, block-is, same-word, same-block, word-free, block-free, apart}
+use Rattle.history.proofs.Begun.{program-told, block-told, program-is, block-is, same-program, same-block, program-free, block-free, apart}
 
 -- ---- what the cut leaves, given the record
 
-module _ (p : Part) (start : List ℕ) (fs : List Fact) (r : Device) (cells debris : List ℕ) (long : length cells ≡ wordCount p) (s : sound p r ≡ true)
-    (enough : debrisNeeded p (r .operation) ≤ length debris) (h : Holds p start fs cells) where
+module _ (p : Part) (start : Lent) (fs : List Fact) (r : Device) (l : Lent) (debris : List ℕ) (fit : Fit p r l)
+    (enough : debrisNeeded p (r .operation) ≤ length debris) (h : Holds p start fs l) where
   op-sound : operationSound p (r .bits) (r .operation) ≡ true
-  op-sound = sound-operation p r s (r .operation) refl
+  op-sound = sound-operation p r (fit .sound) (r .operation) refl
+
+  lies : Lies p (begunProgram p (r .operation))
+  lies = record { lies = λ d e. program-free p (r .bits) (r .operation) op-sound d e .lies }
 
   for-block : blockDebris p (begunBlock p (r .operation)) ≤ length debris
-  for-block = block-enough p (r .operation) debris cells long enough
+  for-block = block-enough p (r .operation) debris l (fit .whole) enough
 
-  abbrev after-block : List ℕ
-  after-block = blockCut p (begunBlock p (r .operation)) debris cells
+  abbrev after-block : Lent
+  after-block = blockCut p (begunBlock p (r .operation)) debris l
 
-  block-size : length after-block ≡ wordCount p
-  block-size = length-block p debris cells long (begunBlock p (r .operation)) for-block ∙ long
+  after-long : length (after-block .cells) ≡ wordCount p
+  after-long = block-size p (r .operation) debris l (fit .whole) enough ∙ fit .whole
 
-  abbrev cut-cells : List ℕ
-  cut-cells = cutCells p (r .operation) debris cells
+  missed : (x : ℕ) → ((d : Written) → begunProgram p (r .operation) ≡ Writes d → writes d x ≡ false) → ((b : ℕ) → begunBlock p (r .operation) ≡ At b → blockOf p x ≡ b → ⊥)
+      → cellAt (cutLent p (r .operation) debris l) x ≡ cellAt l x
+  missed x no-word no-block = untouched p (r .operation) debris l (fit .whole) enough lies x no-word no-block
 
-  missed : (x : ℕ) → ((b : ℕ) → begunBlock p (r .operation) ≡ At b → blockOf p x ≡ b → ⊥) → (begunWord p (r .operation) ≡ At x → ⊥) → getD cut-cells x 0 ≡ getD cells x 0
-  missed x b a = untouched p (r .operation) debris cells long enough x a b
+  -- a word of the begun program lies outside the begun block
+  outside : (x : ℕ) (d : Written) → begunProgram p (r .operation) ≡ Writes d → writes d x ≡ true → (b : ℕ) → begunBlock p (r .operation) ≡ At b → blockOf p x ≡ b → ⊥
+  outside x d e t b f g = apart p (r .bits) (r .operation) op-sound d b e f (sym (written-in-block p d x t) ∙ g)
 
-  word-left : (x w : ℕ) → x < wordCount p → ProgramBegun (seenOp p (r .operation)) x w → Partly (getD cells x 0) w (getD cut-cells x 0)
-  unfolding cutCells
-  word-left x w hx g =
-      let is = word-is p (r .operation) x w g in
+  word-left : (x : ℕ) (d : Written) → ProgramBegun (seenOp p (r .operation)) d → writes d x ≡ true → Partly (cellAt l x) (datum d x) (cellAt (cutLent p (r .operation) debris l) x)
+  unfolding cutLent
+  word-left x d g t =
+      let is = program-is p (r .operation) d g in
       rw (
-        word-hit (programWord (r .operation)) _ after-block (begunWord p (r .operation)) x (omega (arith, block-size)) (is .at),
-        is .word,
-        block-out p debris cells long (begunBlock p (r .operation)) for-block x (λ b e d. apart p (r .bits) (r .operation) op-sound x b (is .at) e d),
+        program-hit p _ after-block after-long (begunProgram p (r .operation)) lies x d is t,
+        block-out p debris l (fit .whole) (begunBlock p (r .operation)) for-block x (outside x d is t),
       )
-      (partly (getD cells x 0) w _)
+      (partly (cellAt l x) (datum d x) _)
 
-  block-left : (x : ℕ) → x < wordCount p → EraseBegun (seenOp p (r .operation)) (blockOf p x) → getD cut-cells x 0 ≡ getD debris (x - firstOf p (blockOf p x)) 0
-  unfolding cutCells
+  block-left : (x : ℕ) → x < wordCount p → EraseBegun (seenOp p (r .operation)) (blockOf p x) → cellAt (cutLent p (r .operation) debris l) x ≡ getD debris (x - firstOf p (blockOf p x)) 0
+  unfolding cutLent
   block-left x hx g =
       let is = block-is p (r .operation) (blockOf p x) g in
-      word-out _ _ after-block (begunWord p (r .operation)) x (λ e. apart p (r .bits) (r .operation) op-sound x (blockOf p x) e is refl)
-      ∙ block-hit p debris cells long (begunBlock p (r .operation)) for-block x hx is
+      program-out p _ after-block after-long (begunProgram p (r .operation)) lies x
+      (λ d e. by-cases (writes d x) (λ t. absurd (outside x d e t (blockOf p x) is refl)) (λ t. t))
+      ∙ block-hit p debris l (fit .whole) (begunBlock p (r .operation)) for-block x hx is
 
-  left : Left p start (seen p r fs) r cells debris (outcome (answer Done 0 (cutDevice r)) cut-cells)
+  left : Left p start (seen p r fs) r l debris (cutTaken p r l debris)
   unfolding Holds
   left =
       record {
-        others = λ x hx nw nb. missed x (λ b e d. nb (rw d (block-told p (r .operation) b e))) (λ e. nw (programWord (r .operation)) (word-told p (r .operation) x e)) ∙ h x hx;
-        word = λ x w hx g. rw (← h x hx) (word-left x w hx g);
+        others = λ x hx nw nb. missed x (λ d e. nw d (program-told p (r .operation) d e)) (λ b e d. nb (rw d (block-told p (r .operation) b e))) ∙ h x hx;
+        word = λ x d hx g t. rw (← h x hx) (word-left x d g t);
         block = λ x hx g. block-left x hx g;
-        one-word = λ x y v w f g. same-word p (seenOp p (r .operation)) f g;
+        one-word = λ x y d e f g t u. one-written p d x y t (ap (λ (w : Written). writes w y) (same-program p (seenOp p (r .operation)) f g) ∙ u);
         one-block = λ b c f g. same-block p (seenOp p (r .operation)) f g;
-        kept = λ x hx e. missed x (λ b f d. clash e (ap (protected (r .bits)) d ∙ block-free p (r .bits) (r .operation) op-sound b f))
-            (λ f. clash e (word-free p (r .bits) (r .operation) op-sound x f .free));
-        size = length-cut p (r .operation) debris cells long enough;
+        kept = λ x hx e. missed x
+            (λ d f. by-cases (writes d x) (λ t. clash e (ap (protected (r .bits)) (written-in-block p d x t) ∙ program-free p (r .bits) (r .operation) op-sound d f .free)) (λ t. t))
+            (λ b f d. clash e (ap (protected (r .bits)) d ∙ block-free p (r .bits) (r .operation) op-sound b f));
+        size = length-cut p (r .operation) debris l (fit .whole) enough;
         meter = refl;
         ppb = refl;
         dyb = refl;
@@ -95,29 +102,24 @@ module _ (p : Part) (start : List ℕ) (fs : List Fact) (r : Device) (cells debr
 
 -- ---- the cut is accepted
 
-module _ (p : Part) (start : List ℕ) (fs : List Fact) (r : Device) (cells debris : List ℕ) where
+module _ (p : Part) (start : Lent) (fs : List Fact) (r : Device) (l : Lent) (debris : List ℕ) where
   Claim : Outcome → Type 0
-  Claim o = o .answer .refusal ≡ Done → Left p start (seen p r fs) r cells debris o
+  Claim o = o .answer .refusal ≡ Done → Left p start (seen p r fs) r l debris o
 
-  refused-not : {P : Type 0} (e : State ≡ Done) → P
-  refused-not e = let z : _≡_ {A = ℕ} 0 1 = cc in absurd (omega arith)
-
-  accepted : Holds p start fs cells → Claim (step p r cells (cut debris))
+  accepted : Holds p start fs l → Claim (step p r l (cut debris))
   unfolding Claim step cutEvent
   accepted h =
-      by-test Claim (not (sound p r)) (λ t e. refused-not e)
-      (λ t. by-test Claim (not (eqb (length cells) (wordCount p))) (λ u e. let z : _≡_ {A = ℕ} 0 1 = cc in absurd (omega arith))
-      (λ u. by-test Claim (ltb (length debris) (debrisNeeded p (r .operation))) (λ v e. let z : _≡_ {A = ℕ} 0 1 = cc in absurd (omega arith))
-      (λ v e. left p start fs r cells debris (eqb-true (length cells) (wordCount p) (not-false (eqb (length cells) (wordCount p)) u)) (not-false (sound p r) t)
-      (ltb-false (length debris) (debrisNeeded p (r .operation)) v) h)))
+      by-ladder p r l _ Debris _ Claim (λ s e. let z : _≡_ {A = ℕ} 0 1 = cc in absurd (omega arith)) (λ e. let z : _≡_ {A = ℕ} 0 1 = cc in absurd (omega arith))
+      (λ f e. let z : _≡_ {A = ℕ} 0 1 = cc in absurd (omega arith))
+      (λ f t e. left p start fs r l debris f (ltb-false (length debris) (debrisNeeded p (r .operation)) t) h)
 
 pub demand-3 : (p : Part) → Demand3 p
 unfolding seenOp Holds holds Claim
 demand-3 p start es debris e =
     let t = run-told p start fresh start [] es in
     let ran = run p fresh start es in
-    subst (λ (h : Told). Left p start h (ran .device) (ran .cells) debris (step p (ran .device) (ran .cells) (cut debris))) (sym (t .tells))
-    (accepted p start (t .facts) (ran .device) (ran .cells) debris (t .hold (λ x hx. refl)) e)
+    subst (λ (h : Told). Left p start h (ran .device) (ran .lent) debris (step p (ran .device) (ran .lent) (cut debris))) (sym (t .tells))
+    (accepted p start (t .facts) (ran .device) (ran .lent) debris (t .hold (λ x hx. refl)) e)
 
 pub holding : (p : Part) → Holding p
 unfolding seenOp Holds holds

@@ -1,86 +1,38 @@
--- The register: which of its states may stand beside which operation.
+-- The register while nothing runs: which of its states may follow which.
 use mathlib.Core.Path.{_≡_, refl}
 use mathlib.Core.Bool.{Bool, true, false}
-use Rattle.plain.specs.declared.Program.{Program}
-use Rattle.plain.specs.declared.Erase.{Erase}
-use Rattle.plain.specs.declared.Inside.{Inside}
-use Rattle.plain.specs.declared.Inside.the-variants.{Nothing, Runs}
-use Rattle.plain.specs.declared.Operation.{Operation}
-use Rattle.plain.specs.declared.Operation.the-variants.{Idle, Programming, ProgramSuspended, Window, Erasing, EraseSuspended, ChipErasing}
-use Rattle.plain.specs.declared.Command.{Command}
-use Rattle.plain.specs.declared.Command.the-variants.{Ground, Unlock, Unlocked, ProgramData, EraseSetup, EraseUnlock, EraseUnlocked, DybData, PpbSetup, PpbSetting, PpbClearing, Identity, DybReading}
-use Rattle.plain.specs.Record.{suspended}
-use Rattle.plain.specs.Commands.{programRests, isSuspended}
-use Rattle.plain.specs.Sound.{idleCommand, runningCommand, suspendedCommand, insideCommand, commandSound}
+use Rattle.geometry.specs.declared.Part.{Part}
+use Rattle.plain.specs.declared.Suspension.{Suspension}
+use Rattle.plain.specs.declared.Suspension.the-variants.{Unsuspended, OfProgram, OfErase}
+use Rattle.plain.specs.declared.Cycle.{Cycle}
+use Rattle.plain.specs.declared.Cycle.the-variants.{ProgramData}
+use Rattle.plain.specs.Commands.{programIsSuspended, isSuspended}
+use Rattle.plain.specs.Sound.{cycleInRange, cycleInSuspension, cycleSound}
 use Rattle.plain.proofs.Tools.{clash}
 
-inside-ground : (i : Inside) → insideCommand i Ground ≡ true
-unfolding insideCommand suspendedCommand runningCommand
-inside-ground Nothing = refl
-inside-ground (Runs q) = refl
+-- a cycle that idleness and both suspensions allow
+pub early : (p : Part) (s : Suspension) (c : Cycle) → cycleInRange p c ≡ true → ((b : Bool) → cycleInSuspension b c ≡ true) → cycleSound p s c ≡ true
+unfolding cycleSound
+early p Unsuspended c i f = i
+early p (OfProgram q) c i f = f false
+early p (OfErase e) c i f = f true
 
--- ground is sound whatever goes on
-pub ground-sound : (o : Operation) → commandSound o Ground ≡ true
-unfolding commandSound idleCommand runningCommand suspendedCommand
-ground-sound Idle = refl
-ground-sound (Programming q) = refl
-ground-sound (ProgramSuspended q) = refl
-ground-sound (Window e) = refl
-ground-sound (Erasing e) = refl
-ground-sound (EraseSuspended s) = inside-ground (s .inside)
-ground-sound (ChipErasing e) = refl
+-- a cycle that no suspension allows
+pub late : (p : Part) (s : Suspension) (c : Cycle) → ((b : Bool) → cycleInSuspension b c ≡ false) → cycleSound p s c ≡ true → s ≡ Unsuspended
+unfolding cycleSound
+late p Unsuspended c f e = refl
+late p (OfProgram q) c f e = clash e (f false)
+late p (OfErase x) c f e = clash e (f true)
 
--- and nothing else while an operation runs
-running-ground : (c : Command) → runningCommand c ≡ true → c ≡ Ground
-unfolding runningCommand
-running-ground Ground e = refl
-running-ground Unlock e = clash e refl
-running-ground Unlocked e = clash e refl
-running-ground ProgramData e = clash e refl
-running-ground EraseSetup e = clash e refl
-running-ground EraseUnlock e = clash e refl
-running-ground EraseUnlocked e = clash e refl
-running-ground DybData e = clash e refl
-running-ground PpbSetup e = clash e refl
-running-ground (PpbSetting b) e = clash e refl
-running-ground PpbClearing e = clash e refl
-running-ground (Identity bank) e = clash e refl
-running-ground DybReading e = clash e refl
-
--- what runs may become anything
-pub ran : (o : Operation) (c : Command) → runningCommand c ≡ true → commandSound o c ≡ true
-ran o c e = rw (running-ground c e) (ground-sound o)
-
--- ---- while nothing runs
-
-pub data Quiet : Operation → Type 0 where
-  idle : Quiet Idle
-  program-rests : {q : Program} → Quiet (ProgramSuspended q)
-  erase-rests : {e : Erase} → Quiet (EraseSuspended (suspended e Nothing))
-
--- a state that idleness and both suspensions allow
-pub early : {o : Operation} (c : Command) → Quiet o → idleCommand c ≡ true → ((b : Bool) → suspendedCommand b c ≡ true) → commandSound o c ≡ true
-unfolding commandSound insideCommand
-early c idle i s = i
-early c program-rests i s = s false
-early c erase-rests i s = s true
-
--- a state that no suspension allows
-pub late : {o : Operation} (c : Command) → Quiet o → ((b : Bool) → suspendedCommand b c ≡ false) → commandSound o c ≡ true → o ≡ Idle
-unfolding commandSound insideCommand
-late c idle s e = refl
-late c program-rests s e = clash e (s false)
-late c erase-rests s e = clash e (s true)
-
-pub not-suspended : {o : Operation} → Quiet o → isSuspended o ≡ false → o ≡ Idle
+pub not-suspended : (s : Suspension) → isSuspended s ≡ false → s ≡ Unsuspended
 unfolding isSuspended
-not-suspended idle e = refl
-not-suspended program-rests e = clash refl e
-not-suspended erase-rests e = clash refl e
+not-suspended Unsuspended e = refl
+not-suspended (OfProgram q) e = clash refl e
+not-suspended (OfErase x) e = clash refl e
 
 -- A0H is refused in a suspended program alone
-pub may-program : {o : Operation} → Quiet o → programRests o ≡ false → commandSound o ProgramData ≡ true
-unfolding programRests commandSound idleCommand insideCommand suspendedCommand
-may-program idle e = refl
-may-program program-rests e = clash refl e
-may-program erase-rests e = refl
+pub may-program : (p : Part) (s : Suspension) → programIsSuspended s ≡ false → cycleSound p s ProgramData ≡ true
+unfolding programIsSuspended cycleSound cycleInRange cycleInSuspension
+may-program p Unsuspended e = refl
+may-program p (OfProgram q) e = clash refl e
+may-program p (OfErase x) e = refl

@@ -6,11 +6,8 @@ pub mod Cuts
 pub mod Runs
 pub mod Begun
 pub mod Demand
-pub mod KeptFacts
 pub mod KeptRegister
 pub mod KeptLists
-pub mod KeptBits
-pub mod KeptTime
 pub mod KeptWrite
 pub mod KeptRead
 pub mod KeptEvents

@@ -2,6 +2,7 @@
 use Prim.Native.Nat.{ℕ, _-_}
 use mathlib.Core.Path.{_≡_, refl}
 use mathlib.Core.List.{List}
+use native.Mathlib.Omega.{arith}
 use Rattle.geometry.specs.declared.Part.{Part}
 use Rattle.plain.specs.declared.Erase.{Erase}
 use Rattle.plain.specs.declared.Inside.{Inside}
@@ -15,12 +16,12 @@ use Rattle.plain.specs.Status.{polled, insidePolled, rested}
 
 unfoldable pub seenInside : Part → Erase → Inside → Doing
 seenInside p e Nothing = rests (e .list) (e .hand) (eraseTime p - e .left)
-seenInside p e (Runs q) = programsIn (q .at) (q .word) (programTime p - q .left) (e .list) (e .hand) (eraseTime p - e .left)
+seenInside p e (Runs q) = programsIn (q .writes) (programTime p - q .left) (e .list) (e .hand) (eraseTime p - e .left)
 
 unfoldable pub seenOp : Part → Operation → Doing
 seenOp p Idle = nothing
-seenOp p (Programming q) = programs (q .at) (q .word) (programTime p - q .left)
-seenOp p (ProgramSuspended q) = pauses (q .at) (q .word) (programTime p - q .left)
+seenOp p (Programming q) = programs (q .writes) (programTime p - q .left)
+seenOp p (ProgramSuspended q) = pauses (q .writes) (programTime p - q .left)
 seenOp p (Window e) = waits (e .list) (e .hand) (windowTime p - e .left)
 seenOp p (Erasing e) = erases (e .list) (e .hand) (eraseTime p - e .left)
 seenOp p (EraseSuspended s) = seenInside p (s .erase) (s .inside)
@@ -29,6 +30,10 @@ seenOp p (ChipErasing e) = wipes (e .list) (e .hand) (chipTime p - e .left)
 abbrev pub seen : Part → Device → List Fact → Told
 seen p r fs =
     telling (r .command) (seenOp p (r .operation)) (r .bits .dyb) (r .bits .ppb) fs (r .meter .clock) (r .meter .charge)
+
+-- of what has its full time left no time has gone
+pub none-gone : (full : ℕ) → full - full ≡ 0
+none-gone full = omega arith
 
 -- ---- toggles are not seen
 

@@ -1,11 +1,10 @@
 -- A write, taken or refused: the history goes on saying what the record says.
-use Prim.Native.Nat.{ℕ, _-_, _%_, min}
-use mathlib.Core.Path.{_≡_, refl, sym, ap, _∙_}
+use Prim.Native.Nat.{ℕ, _%_}
+use mathlib.Core.Path.{_≡_, refl}
 use mathlib.Core.Bool.{Bool, true, false, _&&_, not}
 use mathlib.Core.List.{List}
-use native.Mathlib.Omega.{arith}
 use lib.Dec.{eqb}
-use borrow.Author.Tests.{eqb-true, not-false}
+use borrow.Author.Tests.{eqb-true}
 use Rattle.blocks.specs.Blocks.{has}
 use Rattle.geometry.specs.declared.Part.{Part}
 use Rattle.geometry.specs.Parts.{blockOf, bankOf, bankOfBlock}
@@ -13,44 +12,33 @@ use Rattle.meter.specs.declared.Meter.{Meter}
 use Rattle.protection.specs.declared.Protection.{Protection}
 use Rattle.protection.specs.Protection.{protected, unprotected, allProtected}
 use Rattle.plain.specs.declared.Refusal.{Refusal}
-use Rattle.plain.specs.declared.Refusal.the-variants.{Done, Busy, Sequence, Bank, Protected, Suspended, Locked}
-use Rattle.plain.specs.declared.Program.{Program}
+use Rattle.plain.specs.declared.Refusal.the-variants.{Busy, Sequence, Bank, Protected, Suspended, Locked}
 use Rattle.plain.specs.declared.Erase.{Erase}
 use Rattle.plain.specs.declared.Inside.{Inside}
 use Rattle.plain.specs.declared.Inside.the-variants.{Nothing, Runs}
 use Rattle.plain.specs.declared.Operation.{Operation}
 use Rattle.plain.specs.declared.Operation.the-variants.{Idle, Programming, ProgramSuspended, Window, Erasing, EraseSuspended, ChipErasing}
+use Rattle.plain.specs.declared.Suspension.{Suspension}
+use Rattle.plain.specs.declared.Suspension.the-variants.{Unsuspended, OfProgram, OfErase}
 use Rattle.plain.specs.declared.Command.{Command}
-use Rattle.plain.specs.declared.Command.the-variants.{Ground, Unlock, Unlocked, ProgramData, EraseSetup, EraseUnlock, EraseUnlocked, DybData, PpbSetup, PpbSetting, PpbClearing, Identity, DybReading}
+use Rattle.plain.specs.declared.Command.the-variants.{Ground, Entering, Reads}
+use Rattle.plain.specs.declared.Cycle.{Cycle}
+use Rattle.plain.specs.declared.Cycle.the-variants.{Unlock, Unlocked, ProgramData, EraseSetup, EraseUnlock, EraseUnlocked, DybData, PpbSetup, PpbSetting, PpbClearing}
+use Rattle.plain.specs.declared.Reading.the-variants.{Identity, Dybs}
 use Rattle.plain.specs.declared.Effect.{Effect}
 use Rattle.plain.specs.declared.Effect.the-variants.{Goes, Starts, Protects, Falls, Stays, Drops}
 use Rattle.plain.specs.declared.Device.{Device}
 use Rattle.plain.specs.Choice.{if_then_else_}
 use Rattle.plain.specs.Cycles.{isAt, is, firstUnlock, secondUnlock, isDyb}
 use Rattle.plain.specs.Figures.{programTime, windowTime, eraseTime, chipTime}
-use Rattle.plain.specs.Record.{device, program, suspended}
-use Rattle.plain.specs.Commands.{programRests, isSuspended, resumed, listedIn, withProgram, atGround, afterUnlock, afterUnlocked, afterA0, after80, after80Unlock, after80Unlocked, after48, after60, after68, after6060, afterReading, entered, addBlock, inWindow, inSuspendedErase, written, effected}
-use Rattle.plain.specs.History.{Fact, Doing, nothing, programs, pauses, waits, erases, wipes, rests, programsIn, Told, kind, Kind, taken, lost, dropped, unheard, enters, begins, protects, beginsProgram, goesOn, hears, wrote, gaveUp, turnedDown, wroteAs}
-use Rattle.plain.proofs.Tools.{by-test, both-left, both-right}
-use Rattle.history.proofs.Seen.{seenInside, seenOp, seen}
-
--- nothing runs: a command's cycles are taken
-data Quiet : Operation → Type 0 where
-  idle : Quiet Idle
-  paused : {q : Program} → Quiet (ProgramSuspended q)
-  resting : {e : Erase} → Quiet (EraseSuspended (suspended e Nothing))
-
-resumes : (p : Part) {o : Operation} → Quiet o → goesOn (seenOp p o) ≡ seenOp p (resumed o)
-unfolding goesOn seenOp seenInside resumed
-resumes p idle = refl
-resumes p paused = refl
-resumes p resting = refl
-
-begins-program : (p : Part) {o : Operation} → Quiet o → (a w : ℕ) → beginsProgram (seenOp p o) a w ≡ seenOp p (withProgram o (program a w (programTime p) false))
-unfolding beginsProgram seenOp seenInside withProgram
-begins-program p idle a w = refl
-begins-program p paused a w = refl
-begins-program p resting a w = refl
+use Rattle.plain.specs.Programs.{writing, blockWritten}
+use Rattle.plain.specs.Record.{device, suspended}
+use Rattle.plain.specs.Commands.{programIsSuspended, isSuspended, resumes, begins, atGround, afterUnlock, afterUnlocked, afterA0, after80, after80Unlock, after80Unlocked, after48, after60, after68, after6060, afterReading, continued, entered, addBlock, inWindow, inSuspendedErase, written, effected}
+use Rattle.plain.specs.History.{Fact, Told, kind, dropped, unheard, enters, protects, beginsProgram, goesOn, hearsCycle, hears, wrote, gaveUp, turnedDown, wroteAs}
+use Rattle.plain.specs.History as told
+use Rattle.plain.proofs.Tools.{by-test, both-right}
+use Rattle.plain.proofs.Register.{standing}
+use Rattle.history.proofs.Seen.{seenInside, seenOp, seen, none-gone}
 
 module _ (p : Part) (fs : List Fact) (a w : ℕ) (m : Meter) (bits : Protection) where
   abbrev rec : Command → Operation → Device
@@ -63,168 +51,155 @@ module _ (p : Part) (fs : List Fact) (a w : ℕ) (m : Meter) (bits : Protection)
   pub record For (c : Command) (o : Operation) (x : Effect) : Type 0 where
     pub tells : wroteAs p (before c o) (kind (effected (rec c o) x .refusal)) a w ≡ seen p (effected (rec c o) x .device) fs
 
-  -- ---- the ends of a cycle
+  -- ---- the ends of a cycle, while nothing runs
 
-  goes : {c : Command} {o : Operation} → Quiet o → (d : Command) → hears p (before c o) c a w ≡ enters (before c o) d → For c o (Goes d)
-  unfolding effected kind wroteAs wrote seenOp seenInside
-  goes idle d e = record { tells = e }
-  goes paused d e = record { tells = e }
-  goes resting d e = record { tells = e }
+  abbrev In : Suspension → Command → Effect → Type 0
+  In s c x = For c (standing s) x
 
-  starts : {c : Command} {o : Operation} → Quiet o → (n : Operation) → hears p (before c o) c a w ≡ begins (before c o) (seenOp p n) → For c o (Starts n)
-  unfolding effected kind wroteAs wrote seenOp seenInside
-  starts idle n e = record { tells = e }
-  starts paused n e = record { tells = e }
-  starts resting n e = record { tells = e }
+  abbrev heard : Suspension → Command → Told
+  heard s c = hears p (before c (standing s)) c a w
 
-  guards : {c : Command} {o : Operation} → Quiet o → (b : Protection) → hears p (before c o) c a w ≡ protects (before c o) (b .dyb) (b .ppb) → For c o (Protects b)
-  unfolding effected kind wroteAs wrote seenOp seenInside
-  guards idle b e = record { tells = e }
-  guards paused b e = record { tells = e }
-  guards resting b e = record { tells = e }
+  goes : (s : Suspension) (c d : Command) → heard s c ≡ enters (before c (standing s)) d → In s c (Goes d)
+  unfolding effected kind wroteAs wrote seenOp seenInside standing
+  goes Unsuspended c d e = record { tells = e }
+  goes (OfProgram q) c d e = record { tells = e }
+  goes (OfErase x) c d e = record { tells = e }
 
-  sequence : {c : Command} {o : Operation} → Quiet o → For c o (Falls Sequence)
-  unfolding effected kind wroteAs gaveUp seenOp seenInside
-  sequence idle = record { tells = refl }
-  sequence paused = record { tells = refl }
-  sequence resting = record { tells = refl }
+  starts : (s : Suspension) (c : Command) (n : Operation) → heard s c ≡ told.begins (before c (standing s)) (seenOp p n) → In s c (Starts n)
+  unfolding effected kind wroteAs wrote seenOp seenInside standing
+  starts Unsuspended c n e = record { tells = e }
+  starts (OfProgram q) c n e = record { tells = e }
+  starts (OfErase x) c n e = record { tells = e }
 
-  down : {c : Command} {o : Operation} → Quiet o → (n : Refusal) → kind n ≡ dropped → For c o (Falls n)
-  unfolding effected wroteAs turnedDown seenOp seenInside
-  down idle n e = record { tells = rw e }
-  down paused n e = record { tells = rw e }
-  down resting n e = record { tells = rw e }
+  guards : (s : Suspension) (c : Command) (b : Protection) → heard s c ≡ protects (before c (standing s)) (b .dyb) (b .ppb) → In s c (Protects b)
+  unfolding effected kind wroteAs wrote seenOp seenInside standing
+  guards Unsuspended c b e = record { tells = e }
+  guards (OfProgram q) c b e = record { tells = e }
+  guards (OfErase x) c b e = record { tells = e }
+
+  sequence : (s : Suspension) (c : Command) → In s c (Falls Sequence)
+  unfolding effected kind wroteAs gaveUp seenOp seenInside standing
+  sequence Unsuspended c = record { tells = refl }
+  sequence (OfProgram q) c = record { tells = refl }
+  sequence (OfErase x) c = record { tells = refl }
+
+  down : (s : Suspension) (c : Command) (n : Refusal) → kind n ≡ dropped → In s c (Falls n)
+  unfolding effected wroteAs turnedDown seenOp seenInside standing
+  down Unsuspended c n e = record { tells = rw e }
+  down (OfProgram q) c n e = record { tells = rw e }
+  down (OfErase x) c n e = record { tells = rw e }
 
   stays : {c : Command} {o : Operation} → (n : Refusal) → kind n ≡ unheard → For c o (Stays n)
   unfolding effected wroteAs
   stays n e = record { tells = rw e }
 
-  -- ---- the register's states
-
-  resets : {c : Command} {o : Operation} → Quiet o → hears p (before c o) c a w ≡ enters (before c o) Ground → For c o (Goes Ground)
-  resets q e = goes q Ground e
-
-  unless-so : {c : Command} {o : Operation} → Quiet o → (b : Bool) (x : Effect) → For c o x → For c o (if b then Falls Suspended else x)
+  unless-so : (s : Suspension) (c : Command) (b : Bool) (x : Effect) → In s c x → In s c (if b then Falls Suspended else x)
   unfolding kind
-  unless-so q true x f = down q Suspended refl
-  unless-so q false x f = f
+  unless-so s c true x f = down s c Suspended refl
+  unless-so s c false x f = f
+
+  -- F0H, or what else the cycle makes of the write
+  or-ground : (s : Suspension) (c : Command) (x : Effect) → (is w 0xF0 ≡ true → heard s c ≡ enters (before c (standing s)) Ground) → (is w 0xF0 ≡ false → In s c x)
+      → In s c (if is w 0xF0 then Goes Ground else x)
+  or-ground s c x f g = by-test (In s c) (is w 0xF0) (λ e. goes s c Ground (f e)) g
 
   low : (code : ℕ) → is w code ≡ true → w % 256 ≡ code
   low code e = eqb-true (w % 256) code e
 
-  at-ground : (o : Operation) → Quiet o → For Ground o (atGround o a w)
+  -- ---- operations that go on and start
+
+  resumes-told : (s : Suspension) → firstUnlock a w ≡ false → is w 0x30 ≡ true → In s Ground (resumes s)
+  unfolding resumes hears goesOn seenOp seenInside standing
+  resumes-told Unsuspended f e = sequence Unsuspended Ground
+  resumes-told (OfProgram q) f e = starts (OfProgram q) Ground _ (rw (f, e))
+  resumes-told (OfErase x) f e = starts (OfErase x) Ground _ (rw (f, e))
+
+  begins-told : (s : Suspension) → In s (Entering ProgramData) (begins p s (writing a w))
+  unfolding begins hears hearsCycle beginsProgram kind seenOp seenInside standing
+  begins-told Unsuspended = starts Unsuspended _ _ (rw (none-gone (programTime p)))
+  begins-told (OfProgram q) = down (OfProgram q) _ Suspended refl
+  begins-told (OfErase x) =
+      by-test (In (OfErase x) (Entering ProgramData)) (has (x .list) (blockWritten p (writing a w))) (λ _. down (OfErase x) _ Suspended refl)
+      (λ _. starts (OfErase x) _ _ (rw (none-gone (programTime p))))
+
+  -- ---- the register's states
+
+  at-ground : (s : Suspension) → In s Ground (atGround s a w)
   unfolding atGround hears
-  at-ground o q =
-      by-test (For Ground o) (firstUnlock a w) (λ e. goes q Unlock (rw e))
-      (λ e. by-test (For Ground o) (is w 0xF0) (λ f. resets q (rw (e, low 0xF0 f)))
-      (λ f. by-test (For Ground o) (is w 0x30 && isSuspended o)
-      (λ g. starts q (resumed o) (rw (e, both-left (is w 0x30) (isSuspended o) g, resumes p q))) (λ g. sequence q)))
+  at-ground s =
+      by-test (In s Ground) (firstUnlock a w) (λ e. goes s _ _ (rw e))
+      (λ e. or-ground s Ground _ (λ f. rw (e, low 0xF0 f)) (λ f. by-test (In s Ground) (is w 0x30) (λ g. resumes-told s e g) (λ g. sequence s Ground)))
 
-  second : (c d : Command) (o : Operation) → Quiet o → (secondUnlock a w ≡ true → hears p (before c o) c a w ≡ enters (before c o) d) → (is w 0xF0 ≡ true → hears p (before c o) c a w ≡ enters (before c o) Ground)
-      → For c o (if secondUnlock a w then Goes d else if is w 0xF0 then Goes Ground else Falls Sequence)
-  second c d o q f g =
-      by-test (For c o) (secondUnlock a w) (λ e. goes q d (f e))
-      (λ e. by-test (For c o) (is w 0xF0) (λ h. resets q (g h)) (λ h. sequence q))
+  second : (s : Suspension) (c d : Command) → (secondUnlock a w ≡ true → heard s c ≡ enters (before c (standing s)) d) → (is w 0xF0 ≡ true → heard s c ≡ enters (before c (standing s)) Ground)
+      → In s c (if secondUnlock a w then Goes d else if is w 0xF0 then Goes Ground else Falls Sequence)
+  second s c d f g = by-test (In s c) (secondUnlock a w) (λ e. goes s c d (f e)) (λ e. or-ground s c _ g (λ h. sequence s c))
 
-  after-unlock : (o : Operation) → Quiet o → For Unlock o (afterUnlock a w)
-  unfolding afterUnlock hears
-  after-unlock o q = second Unlock Unlocked o q (λ e. rw (low 0x55 (both-right (isAt a 0x2AA) (is w 0x55) e))) (λ e. rw e)
+  third : (s : Suspension) → In s (Entering Unlocked) (afterUnlocked p bits s a w)
+  unfolding afterUnlocked hears hearsCycle
+  third s =
+      let c = Entering Unlocked in
+      let F = In s c in
+      or-ground s c _ (λ e. rw (low 0xF0 e))
+      (λ e. by-test F (not (isAt a 0x555)) (λ f. sequence s c)
+      (λ f. by-test F (is w 0xA0) (λ g. unless-so s c (programIsSuspended s) _ (goes s c _ (rw (low 0xA0 g))))
+      (λ g. by-test F (is w 0x80) (λ h. unless-so s c (isSuspended s) _ (goes s c _ (rw (low 0x80 h))))
+      (λ h. by-test F (is w 0x90) (λ i. goes s c _ (rw (low 0x90 i)))
+      (λ i. by-test F (is w 0x58) (λ j. goes s c _ (rw (low 0x58 j)))
+      (λ j. by-test F (is w 0x48) (λ k. unless-so s c (isSuspended s) _ (goes s c _ (rw (low 0x48 k))))
+      (λ k. by-test F (is w 0x78) (λ l. unless-so s c (isSuspended s) _ (guards s c _ (rw (low 0x78 l))))
+      (λ l. by-test F (is w 0x60) (λ n. unless-so s c (isSuspended s) _ (goes s c _ (rw (low 0x60 n))))
+      (λ n. sequence s c)))))))))
 
-  after-80-unlock : (o : Operation) → Quiet o → For EraseUnlock o (after80Unlock a w)
-  unfolding after80Unlock hears
-  after-80-unlock o q = second EraseUnlock EraseUnlocked o q (λ e. rw (low 0x55 (both-right (isAt a 0x2AA) (is w 0x55) e))) (λ e. rw e)
+  erase-told : (s : Suspension) → In s (Entering EraseUnlocked) (after80Unlocked p bits a w)
+  unfolding after80Unlocked hears hearsCycle kind seenOp unprotected
+  erase-told s =
+      let c = Entering EraseUnlocked in
+      let F = In s c in
+      or-ground s c _ (λ e. rw e)
+      (λ e. by-test F (isAt a 0x555 && is w 0x10)
+      (λ f. by-test F (allProtected p bits) (λ g. down s c Protected refl)
+      (λ g. starts s c _ (rw (low 0x10 (both-right (isAt a 0x555) (is w 0x10) f), none-gone (chipTime p)))))
+      (λ f. by-test F (is w 0x30)
+      (λ g. by-test F (protected bits (blockOf p a)) (λ h. down s c Protected refl) (λ h. starts s c _ (rw (low 0x30 g, none-gone (windowTime p)))))
+      (λ g. sequence s c)))
 
-  after-80 : (o : Operation) → Quiet o → For EraseSetup o (after80 a w)
-  unfolding after80 hears
-  after-80 o q =
-      by-test (For EraseSetup o) (firstUnlock a w) (λ e. goes q EraseUnlock (rw (low 0xAA (both-right (isAt a 0x555) (is w 0xAA) e))))
-      (λ e. by-test (For EraseSetup o) (is w 0xF0) (λ f. resets q (rw f)) (λ f. sequence q))
-
-  after-unlocked : (o : Operation) → Quiet o → For Unlocked o (afterUnlocked p bits o a w)
-  unfolding afterUnlocked hears
-  after-unlocked o q =
-      by-test (For Unlocked o) (is w 0xF0) (λ e. resets q (rw (low 0xF0 e)))
-      (λ e. by-test (For Unlocked o) (not (isAt a 0x555)) (λ f. sequence q)
-      (λ f. by-test (For Unlocked o) (is w 0xA0) (λ g. unless-so q (programRests o) _ (goes q ProgramData (rw (low 0xA0 g))))
-      (λ g. by-test (For Unlocked o) (is w 0x80) (λ h. unless-so q (isSuspended o) _ (goes q EraseSetup (rw (low 0x80 h))))
-      (λ h. by-test (For Unlocked o) (is w 0x90) (λ i. goes q (Identity (bankOf p a)) (rw (low 0x90 i)))
-      (λ i. by-test (For Unlocked o) (is w 0x58) (λ j. goes q DybReading (rw (low 0x58 j)))
-      (λ j. by-test (For Unlocked o) (is w 0x48) (λ k. unless-so q (isSuspended o) _ (goes q DybData (rw (low 0x48 k))))
-      (λ k. by-test (For Unlocked o) (is w 0x78) (λ l. unless-so q (isSuspended o) _ (guards q _ (rw (low 0x78 l))))
-      (λ l. by-test (For Unlocked o) (is w 0x60) (λ n. unless-so q (isSuspended o) _ (goes q PpbSetup (rw (low 0x60 n))))
-      (λ n. sequence q)))))))))
-
-  after-a0 : (o : Operation) → Quiet o → For ProgramData o (afterA0 p bits o a w)
-  unfolding afterA0 hears kind
-  after-a0 o q =
-      by-test (For ProgramData o) (protected bits (blockOf p a)) (λ e. down q Protected refl)
-      (λ e. by-test (For ProgramData o) (listedIn o (blockOf p a)) (λ f. down q Suspended refl)
-      (λ f. starts q _ (rw (begins-program p q a w))))
-
-  after-80-unlocked : (o : Operation) → Quiet o → For EraseUnlocked o (after80Unlocked p bits a w)
-  unfolding after80Unlocked hears kind seenOp unprotected protected
-  after-80-unlocked o q =
-      by-test (For EraseUnlocked o) (is w 0xF0) (λ e. resets q (rw e))
-      (λ e. by-test (For EraseUnlocked o) (isAt a 0x555 && is w 0x10)
-      (λ f. by-test (For EraseUnlocked o) (allProtected bits) (λ g. down q Protected refl)
-      (λ g. starts q _ (rw (low 0x10 (both-right (isAt a 0x555) (is w 0x10) f)))))
-      (λ f. by-test (For EraseUnlocked o) (is w 0x30)
-      (λ g. by-test (For EraseUnlocked o) (protected bits (blockOf p a)) (λ h. down q Protected refl) (λ h. starts q _ (rw (low 0x30 g))))
-      (λ g. sequence q)))
-
-  after-48 : (o : Operation) → Quiet o → For DybData o (after48 p bits a w)
-  unfolding after48 hears
-  after-48 o q =
-      by-test (For DybData o) (isDyb w 1) (λ e. guards q _ (rw e))
-      (λ e. by-test (For DybData o) (isDyb w 0) (λ f. guards q _ (rw e)) (λ f. sequence q))
-
-  after-60 : (o : Operation) → Quiet o → For PpbSetup o (after60 p a w)
-  unfolding after60 hears
-  after-60 o q =
-      by-test (For PpbSetup o) (is w 0xF0) (λ e. resets q (rw e))
-      (λ e. by-test (For PpbSetup o) (is w 0x68) (λ f. goes q (PpbSetting (blockOf p a)) (rw (low 0x68 f)))
-      (λ f. by-test (For PpbSetup o) (is w 0x60) (λ g. goes q PpbClearing (rw (low 0x60 g))) (λ g. sequence q)))
-
-  locks : {c : Command} {o : Operation} → Quiet o → (b : Protection) → hears p (before c o) c a w ≡ protects (before c o) (b .dyb) (b .ppb)
-      → For c o (if bits .lock then Falls Locked else Protects b)
+  locks : (s : Suspension) (c : Command) (b : Protection) → heard s c ≡ protects (before c (standing s)) (b .dyb) (b .ppb) → In s c (if bits .lock then Falls Locked else Protects b)
   unfolding kind
-  locks {c} {o} q b e = by-test (For c o) (bits .lock) (λ l. down q Locked refl) (λ l. guards q b e)
+  locks s c b e = by-test (In s c) (bits .lock) (λ l. down s c Locked refl) (λ l. guards s c b e)
 
-  after-68 : (b : ℕ) (o : Operation) → Quiet o → For (PpbSetting b) o (after68 p bits b a w)
-  unfolding after68 hears
-  after-68 b o q =
-      by-test (For (PpbSetting b) o) (is w 0xF0) (λ e. resets q (rw e))
-      (λ e. by-test (For (PpbSetting b) o) (is w 0x48 && eqb (blockOf p a) b) (λ f. locks q _ (rw e)) (λ f. sequence q))
+  cycle-told : (s : Suspension) (c : Cycle) → In s (Entering c) (continued p bits s c a w)
+  unfolding continued afterUnlock afterA0 after80 after80Unlock after48 after60 after68 after6060 hears hearsCycle kind
+  cycle-told s Unlock = second s _ _ (λ e. rw (low 0x55 (both-right (isAt a 0x2AA) (is w 0x55) e))) (λ e. rw e)
+  cycle-told s Unlocked = third s
+  cycle-told s ProgramData =
+      by-test (In s (Entering ProgramData)) (protected bits (blockWritten p (writing a w))) (λ _. down s _ Protected refl) (λ _. begins-told s)
+  cycle-told s EraseSetup =
+      by-test (In s (Entering EraseSetup)) (firstUnlock a w) (λ e. goes s _ _ (rw (low 0xAA (both-right (isAt a 0x555) (is w 0xAA) e))))
+      (λ e. or-ground s _ _ (λ f. rw f) (λ f. sequence s _))
+  cycle-told s EraseUnlock = second s _ _ (λ e. rw (low 0x55 (both-right (isAt a 0x2AA) (is w 0x55) e))) (λ e. rw e)
+  cycle-told s EraseUnlocked = erase-told s
+  cycle-told s DybData =
+      by-test (In s (Entering DybData)) (isDyb w 1) (λ e. guards s _ _ (rw e))
+      (λ e. by-test (In s (Entering DybData)) (isDyb w 0) (λ f. guards s _ _ (rw e)) (λ f. sequence s _))
+  cycle-told s PpbSetup =
+      or-ground s _ _ (λ e. rw e)
+      (λ e. by-test (In s (Entering PpbSetup)) (is w 0x68) (λ f. goes s _ _ (rw (low 0x68 f)))
+      (λ f. by-test (In s (Entering PpbSetup)) (is w 0x60) (λ g. goes s _ _ (rw (low 0x60 g))) (λ g. sequence s _)))
+  cycle-told s (PpbSetting b) =
+      or-ground s _ _ (λ e. rw e)
+      (λ e. by-test (In s (Entering (PpbSetting b))) (is w 0x48 && eqb (blockOf p a) b) (λ f. locks s _ _ (rw e)) (λ f. sequence s _))
+  cycle-told s PpbClearing =
+      or-ground s _ _ (λ e. rw e) (λ e. by-test (In s (Entering PpbClearing)) (is w 0x40) (λ f. locks s _ _ (rw e)) (λ f. sequence s _))
 
-  after-6060 : (o : Operation) → Quiet o → For PpbClearing o (after6060 bits w)
-  unfolding after6060 hears
-  after-6060 o q =
-      by-test (For PpbClearing o) (is w 0xF0) (λ e. resets q (rw e))
-      (λ e. by-test (For PpbClearing o) (is w 0x40) (λ f. locks q _ (rw e)) (λ f. sequence q))
-
-  after-reading : (c : Command) (o : Operation) → Quiet o → hears p (before c o) c a w ≡ enters (before c o) Ground → For c o (afterReading w)
-  unfolding afterReading
-  after-reading c o q e = by-test (For c o) (is w 0xF0) (λ f. resets q e) (λ f. sequence q)
-
-  enters-told : (c : Command) (o : Operation) → Quiet o → For c o (entered p bits o c a w)
-  unfolding entered hears
-  enters-told Ground o q = at-ground o q
-  enters-told Unlock o q = after-unlock o q
-  enters-told Unlocked o q = after-unlocked o q
-  enters-told ProgramData o q = after-a0 o q
-  enters-told EraseSetup o q = after-80 o q
-  enters-told EraseUnlock o q = after-80-unlock o q
-  enters-told EraseUnlocked o q = after-80-unlocked o q
-  enters-told DybData o q = after-48 o q
-  enters-told PpbSetup o q = after-60 o q
-  enters-told (PpbSetting b) o q = after-68 b o q
-  enters-told PpbClearing o q = after-6060 o q
-  enters-told (Identity bank) o q = after-reading (Identity bank) o q refl
-  enters-told DybReading o q = after-reading DybReading o q refl
+  enters-told : (s : Suspension) (c : Command) → In s c (entered p bits s c a w)
+  unfolding entered afterReading hears
+  enters-told s Ground = at-ground s
+  enters-told s (Entering c) = cycle-told s c
+  enters-told s (Reads r) = or-ground s (Reads r) _ (λ e. refl) (λ e. sequence s (Reads r))
 
   -- ---- while something runs
 
-  runs-on : {c : Command} {o : Operation} (n : Operation) → wrote p (before c o) (seenOp p o) a w ≡ begins (before c o) (seenOp p n) → For c o (Starts n)
+  runs-on : {c : Command} {o : Operation} (n : Operation) → wrote p (before c o) (seenOp p o) a w ≡ told.begins (before c o) (seenOp p n) → For c o (Starts n)
   unfolding effected kind wroteAs
   runs-on n e = record { tells = e }
 
@@ -240,20 +215,20 @@ module _ (p : Part) (fs : List Fact) (a w : ℕ) (m : Meter) (bits : Protection)
   unfolding inWindow addBlock wrote kind seenOp seenInside
   in-window c e =
       by-test (For c (Window e)) (is w 0x30)
-      (λ f. by-test (For c (Window e)) (not (eqb (bankOf p a) (bankOfBlock (e .hand)))) (λ g. stays Bank refl)
-      (λ g. by-test (For c (Window e)) (protected bits (blockOf p a)) (λ h. window-down) (λ h. runs-on _ (rw f))))
-      (λ f. by-test (For c (Window e)) (is w 0xB0) (λ g. runs-on _ (rw f)) (λ g. window-drops))
+      (λ f. by-test (For c (Window e)) (not (eqb (bankOf p a) (bankOfBlock p (e .hand)))) (λ g. stays Bank refl)
+      (λ g. by-test (For c (Window e)) (protected bits (blockOf p a)) (λ h. window-down) (λ h. runs-on _ (rw (f, none-gone (windowTime p))))))
+      (λ f. by-test (For c (Window e)) (is w 0xB0) (λ g. runs-on _ (rw (f, none-gone (eraseTime p)))) (λ g. window-drops))
 
-  in-suspended : (c : Command) (e : Erase) (i : Inside) → For c (EraseSuspended (suspended e i)) (inSuspendedErase i (entered p bits (EraseSuspended (suspended e i)) c a w))
-  unfolding inSuspendedErase kind
-  in-suspended c e Nothing = enters-told c (EraseSuspended (suspended e Nothing)) resting
+  in-suspended : (c : Command) (e : Erase) (i : Inside) → For c (EraseSuspended (suspended e i)) (inSuspendedErase i (entered p bits (OfErase e) c a w))
+  unfolding inSuspendedErase kind standing
+  in-suspended c e Nothing = enters-told (OfErase e) c
   in-suspended c e (Runs q) = stays Busy refl
 
   written-told : (c : Command) (o : Operation) → For c o (written p bits o c a w)
-  unfolding written wrote kind seenOp seenInside
-  written-told c Idle = enters-told c Idle idle
+  unfolding written wrote kind seenOp seenInside standing
+  written-told c Idle = enters-told Unsuspended c
   written-told c (Programming q) = by-test (For c (Programming q)) (is w 0xB0) (λ e. runs-on _ refl) (λ e. stays Busy refl)
-  written-told c (ProgramSuspended q) = enters-told c (ProgramSuspended q) paused
+  written-told c (ProgramSuspended q) = enters-told (OfProgram q) c
   written-told c (Window e) = in-window c e
   written-told c (Erasing x) = by-test (For c (Erasing x)) (is w 0xB0) (λ e. runs-on _ refl) (λ e. stays Busy refl)
   written-told c (EraseSuspended s) = in-suspended c (s .erase) (s .inside)
