@@ -1,6 +1,8 @@
--- `pass` meets its contract: each operation is passed by its own function.
+-- Each operation is passed by its own function.
+use mathlib.Core.Path.{refl}
 use borrow.Author.Needs.{needs}
-use Rattle.waiting.proofs.Laws.{idle-passed, program-rests}
+use Rattle.plain.proofs.InTime.{idle-still, program-still}
+use Rattle.moments.proofs.Passed.{still-passed, passable-as}
 use Rattle.waiting.proofs.pass.Statement.{statement}
 use Rattle.waiting.proofs.pass.Tie as tie
 
@@ -9,27 +11,27 @@ pass-spec =
     tie.close
     (tie.spec
     (λ c. search needs)  -- enum-told
-    (λ c κs. c .before .before .before .pre .room)  -- rested-requires
+    (λ c κs. c .before .before .before .pre .room)  -- stood-by-requires
     (λ c. search needs)  -- enum-known-operation
-    (λ c κs. (search needs, c .before .before .before .before .before .pre .programs _ (c .before .before .operation .given .1)))  -- pass-program-requires
+    (λ c κs. passable-as _ _ _ _ _ _ (c .before .before .operation .given .1) (c .before .before .before .before .before .pre))  -- pass-program-requires
     (λ c. search needs)  -- enum-told-2
-    (λ c κs. c .before .before .before .pre .room)  -- rested-requires-2
+    (λ c κs. c .before .before .before .pre .room)  -- stood-by-requires-2
     (λ c. search needs)  -- enum-known-operation-2
-    (λ c κs. (search needs, (c .before .before .before .before .before .pre .windows _ (c .before .before .operation2 .given .1), c .before .before .before .before .before .pre .cells)))  -- pass-window-requires
+    (λ c κs. passable-as _ _ _ _ _ _ (c .before .before .operation2 .given .1) (c .before .before .before .before .before .pre))  -- pass-window-requires
     (λ c. search needs)  -- enum-known-operation-3
-    (λ c κs. (search needs, (c .before .before .before .before .before .pre .erases _ (c .before .before .operation3 .given .1), c .before .before .before .before .before .pre .cells)))  -- pass-erase-requires
+    (λ c κs. passable-as _ _ _ _ _ _ (c .before .before .operation3 .given .1) (c .before .before .before .before .before .pre))  -- pass-erase-requires
     (λ c. search needs)  -- enum-known-operation-4
-    (λ c κs. (search needs, c .before .before .before .before .before .pre .rests _ (c .before .before .operation4 .given .1)))  -- pass-suspended-requires
+    (λ c κs. passable-as _ _ _ _ _ _ (c .before .before .operation4 .given .1) (c .before .before .before .before .before .pre))  -- pass-suspended-requires
     (λ c. search needs)  -- enum-known-operation-5
-    (λ c κs. (search needs, (c .before .before .before .before .before .pre .wipes _ (c .before .before .operation5 .given .1), c .before .before .before .before .before .pre .cells)))  -- pass-erase-requires-2
+    (λ c κs. passable-as _ _ _ _ _ _ (c .before .before .operation5 .given .1) (c .before .before .before .before .before .pre))  -- pass-erase-requires-2
     (λ c.
-    let done = idle-passed _ _ _ _ in
-    rw (c .before .enum-told .given .1, c .rested .ensures) (done .result, done .exit))  -- returns
+    let done = still-passed _ _ _ _ _ (idle-still _) in
+    rw (c .before .enum-told .given .1, c .stood-by .ensures) (done .result, done .exit))  -- returns
     (λ c. search needs)  -- same-length
     (λ c. rw (c .before .before .before .before .before .operation .given .1) (c .before .before .pass-program .ensures))  -- returns-2
     (λ c.
-    let done = program-rests _ _ _ _ _ in
-    rw (c .before .enum-told2 .given .1, c .rested2 .ensures) (done .result, done .exit))  -- returns-3
+    let done = still-passed _ _ _ _ _ (program-still _ _) in
+    rw (c .before .enum-told2 .given .1, c .stood-by2 .ensures) (done .result, done .exit))  -- returns-3
     (λ c. search needs)  -- same-length-2
     (λ c. rw (c .before .before .before .before .before .operation2 .given .1) (c .before .before .pass-window .ensures))  -- returns-4
     (λ c. search needs)  -- same-length-3

@@ -1,0 +1,29 @@
+-- What a wait asks of the record, as soundness and the clock's limit give it, and what it changes.
+use Prim.Native.Nat.{ℕ, _+_, _*_, _≤_}
+use mathlib.Core.Path.{_≡_}
+use mathlib.Core.Bool.{true}
+use Rattle.geometry.specs.declared.Part.{Part}
+use Rattle.geometry.specs.Parts.{wordCount}
+use Rattle.meter.specs.declared.Meter.{Meter}
+use Rattle.protection.specs.declared.Protection.{Protection}
+use Rattle.plain.specs.declared.Operation.{Operation}
+use Rattle.plain.specs.Figures.{runningCurrent, clockLimit}
+use Rattle.plain.specs.Sound.{operationSound}
+use Rattle.plain.specs.Time.{Moment}
+use Rattle.moments.specs.declared.Moved.{Moved}
+
+-- the meter and the operation of a moment
+abbrev pub moved : Moment → Moved
+moved m = record { meter = m .meter; operation = m .operation }
+
+-- the wait ends within the clock's limit, and the charge so far is a sound one
+pub record Room (p : Part) (m : Meter) (n : ℕ) : Type 0 where
+  pub clock : m .clock + n ≤ clockLimit p
+  pub charge : m .charge ≤ runningCurrent p * m .clock
+
+-- besides, the cells are whole, and the operation is sound under some protection
+pub record Passable (p : Part) (m : Meter) (o : Operation) (length n : ℕ) : Type 0 where
+  pub room : Room p m n
+  pub whole : length ≡ wordCount p
+  pub bits : Protection
+  pub sound : operationSound p bits o ≡ true
