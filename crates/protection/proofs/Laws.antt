@@ -19,7 +19,7 @@ use Rattle.protection.specs.Protection.{protectedBy, protected, protecte
 -- a fresh device has no protected block
 pub none-fresh : (b : ℕ) → protected freshBits b ≡ false
 unfolding protectedBy
-none-fresh b = ap (λ (t : Bool). t || t) (has-empty b)
+none-fresh b = rw (has-empty b)
 
 -- after a cut the PPBs alone protect
 pub protected-cut : (p : Protection) (b : ℕ) → protected (afterCut p) b ≡ has (p .ppb) b
