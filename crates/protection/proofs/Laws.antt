@@ -1,7 +1,7 @@
 -- The laws of protection that callers use.
 use Prim.Native.Nat.{ℕ}
-use mathlib.Core.Path.{_≡_}
-use mathlib.Core.Bool.{false, _&&_, not}
+use mathlib.Core.Path.{_≡_, ap}
+use mathlib.Core.Bool.{Bool, false, _&&_, _||_, not}
 use native.Mathlib.Omega.{arith}
 use lib.Dec.{ltb}
 use borrow.Author.Tests.{le-ltb}
@@ -16,6 +16,16 @@ use Rattle.regions.proofs.Laws.{has-blocks-of}
 use Rattle.protection.specs.declared.Protection.{Protection}
 use Rattle.protection.specs.Protection.{protectedBy, protected, protectedBlocks, unprotected, freshBits, afterCut}
 
+-- a fresh device has no protected block
+pub none-fresh : (b : ℕ) → protected freshBits b ≡ false
+unfolding protectedBy
+none-fresh b = rw (has-empty b)
+
+-- after a cut the PPBs alone protect
+pub protected-cut : (p : Protection) (b : ℕ) → protected (afterCut p) b ≡ has (p .ppb) b
+unfolding protectedBy
+protected-cut p b = ap (λ (t : Bool). t || has (p .ppb) b) (has-empty b)
+
 -- the one check and the one set agree, at every number
 pub has-protected-blocks : (p : Protection) (b : ℕ) → has (protectedBlocks p) b ≡ protected p b
 unfolding protectedBy
@@ -26,16 +36,6 @@ pub has-unprotected : (part : Part) (p : Protection) (b : ℕ) → has (unprotec
 unfolding unprotected
 has-unprotected part p b =
     has-of (λ n. ltb n (blockCount part) && not (protected p n)) b (λ l. rw (le-ltb b (blockCount part) (omega (arith, blocks-most part))))
-
--- a fresh device has no protected block
-pub none-fresh : (b : ℕ) → protected freshBits b ≡ false
-unfolding protectedBy
-none-fresh b = rw (has-empty b)
-
--- after a cut the PPBs alone protect
-pub protected-cut : (p : Protection) (b : ℕ) → protected (afterCut p) b ≡ has (p .ppb) b
-unfolding protectedBy
-protected-cut p b = rw (has-empty b)
 
 -- how the code makes the set: the part's blocks, less the protected
 pub unprotected-is : (part : Part) (p : Protection) → minusOf (blocksOf part) (protectedBlocks p) ≡ unprotected part p
