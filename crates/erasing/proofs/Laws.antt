@@ -56,6 +56,17 @@ any-hand : (p : Part) (bits : Protection) (chip : Bool) (e : Erase) → operatio
 any-hand p bits true e s full d listed = chip-any p bits e s _ full listed (omega (arith, d, time-some p true)) (omega (arith, d))
 any-hand p bits false e s full d listed = erasing-any p bits e s _ full listed (omega (arith, d, time-some p false)) (omega (arith, d))
 
+-- a window that ends leaves a wait that is passable, too
+pub window-closes : (p : Part) (m : Meter) (e : Erase) (long n : ℕ) → Passable p m (Window e) long n → e .left ≤ n
+    → Passable p (metered m (e .left) (e .left * standbyCurrent p)) (erases false (eraseLeft e (eraseTime p))) long (n - e .left)
+window-closes p m e long n f h =
+    record {
+      room = room-stood-by p m n (e .left) h (f .room);
+      whole = f .whole;
+      bits = f .bits;
+      sound = erasing-holds p (f .bits) _ (closed p (f .bits) e (window p (f .bits) e (f .sound)));
+    }
+
 module _ (p : Part) (m : Meter) (l : Lent) (n : ℕ) where
   abbrev stands : ℕ → Meter
   stands k = metered m k (k * standbyCurrent p)
@@ -73,17 +84,6 @@ module _ (p : Part) (m : Meter) (l : Lent) (n : ℕ) where
   pub window-ends : (e : Erase) → 1 ≤ e .left → e .left ≤ n
       → ticks p (n - e .left) (moment (stands (e .left)) (erases false (eraseLeft e (eraseTime p))) l) ≡ ticks p n (moment m (Window e) l)
   window-ends e s h = sym (passes p _ _ _ _ (window-running p e) n (e .left) m l s h)
-
-  -- what is left to wait after it is passable, too
-  pub window-closes : (e : Erase) (long : ℕ) → Passable p m (Window e) long n → e .left ≤ n
-      → Passable p (stands (e .left)) (erases false (eraseLeft e (eraseTime p))) long (n - e .left)
-  window-closes e long f h =
-      record {
-        room = room-stood-by p m n (e .left) h (f .room);
-        whole = f .whole;
-        bits = f .bits;
-        sound = erasing-holds p (f .bits) _ (closed p (f .bits) e (window p (f .bits) e (f .sound)));
-      }
 
   -- ---- an erase
 

@@ -22,7 +22,7 @@ pass-window-spec =
     (λ c κs. search needs)  -- block-time-requires
     (λ c κs. search needs)  -- with-left-requires-2
     (λ c κs.
-    rw (c .before .with-left2 .ensures, c .before .before .block-time .ensures, c .before .before .before .stood-by2 .ensures) (window-closes _ _ _ _ _ _ (c .before .before .before .before .before .before .pre) (c .before .before .before .before .if1 .left)))  -- pass-erase-requires
+    rw (c .before .with-left2 .ensures, c .before .before .block-time .ensures, c .before .before .before .stood-by2 .ensures) (window-closes _ _ _ _ _ (c .before .before .before .before .before .before .pre) (c .before .before .before .before .if1 .left)))  -- pass-erase-requires
     (λ c. search needs)  -- same-length
     (λ c.
     let same = window-ends _ _ _ _ _ (window _ _ _ (c .before .before .before .before .before .before .before .before .before .pre .sound) .erase .some-left) (c .before .before .before .before .before .before .before .if1 .left) in (
