@@ -23,13 +23,13 @@ use Rattle.plain.specs.Programs.{writes, datum}
 use Rattle.plain.specs.Record.{fresh}
 use Rattle.plain.specs.Sound.{operationSound}
 use Rattle.plain.specs.Cut.{begunBlock, begunProgram, blockDebris, debrisNeeded, blockCut, programCut, cutLent}
-use Rattle.plain.specs.Machine.{Outcome, cutTaken, cutEvent, step, run}
+use Rattle.plain.specs.Machine.{Outcome, cutTaken, cutEvent, step, run, Fit}
 use Rattle.plain.specs.History.{Fact, Told, holds}
 use Rattle.plain.specs.Promises.{ProgramBegun, EraseBegun, Left, Demand3, Holding, ChargeByHistory}
 use Rattle.plain.proofs.Tools.{by-cases, clash}
 use Rattle.plain.proofs.CutCells.{Lies, program-out, program-hit, block-out, block-hit, block-enough, block-size, length-cut, untouched}
 use Rattle.plain.proofs.Facts.{sound-operation}
-use Rattle.plain.proofs.Ladder.{Fit, by-ladder}
+use Rattle.plain.proofs.Ladder.{by-ladder}
 use Rattle.plain.proofs.Programs.{written-in-block, one-written}
 use Rattle.history.proofs.Seen.{seenOp, seen}
 use Rattle.history.proofs.Holds.{Holds}

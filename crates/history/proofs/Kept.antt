@@ -4,7 +4,6 @@ use mathlib.Core.Path.{_≡_, refl}
 use mathlib.Core.Bool.{true}
 use mathlib.Core.List.{List, [], _∷_}
 use lib.ListN.{length}
-use borrow.Author.Tests.{le-ltb, lt-ltb}
 use Rattle.geometry.specs.declared.Part.{Part}
 use Rattle.plain.specs.declared.Refusal.{Refusal}
 use Rattle.plain.specs.declared.Refusal.the-variants.{Done, State, Debris, Inner}
@@ -15,10 +14,10 @@ use Rattle.plain.specs.Record.{fresh}
 use Rattle.plain.specs.Refusals.{number}
 use Rattle.plain.specs.Sound.{sound}
 use Rattle.plain.specs.Cut.{debrisNeeded}
-use Rattle.plain.specs.Machine.{cutTaken, cutEvent, step, run}
+use Rattle.plain.specs.Machine.{step, run, Fit}
 use Rattle.plain.proofs.Tools.{clash}
 use Rattle.plain.proofs.Facts.{fresh-sound}
-use Rattle.plain.proofs.Ladder.{Fit, entry-admitted, ladder-own, ladder-taken}
+use Rattle.plain.proofs.EventLaws.{cut-debris, cut-passes}
 use Rattle.history.proofs.KeptWrite.{never}
 use Rattle.history.proofs.KeptEvents.{step-kept}
 
@@ -54,9 +53,9 @@ never-state p l es c e = never-answers p (run p fresh l es .device) c e State re
 
 module _ (p : Part) (r : Device) (l : Lent) (debris : List ℕ) (f : Fit p r l) where
   pub cut-accepted : debrisNeeded p (r .operation) ≤ length debris → step p r l (cut debris) .answer .refusal ≡ Done
-  unfolding step cutEvent
-  cut-accepted h = rw (ladder-taken p r l _ Debris (cutTaken p r l debris) (entry-admitted p r l f) (le-ltb (length debris) (debrisNeeded p (r .operation)) h))
+  unfolding step
+  cut-accepted h = rw (cut-passes p r l debris f h)
 
   pub cut-refused : length debris < debrisNeeded p (r .operation) → step p r l (cut debris) .answer .refusal ≡ Debris
-  unfolding step cutEvent
-  cut-refused h = rw (ladder-own p r l _ Debris (cutTaken p r l debris) (entry-admitted p r l f) (lt-ltb (length debris) (debrisNeeded p (r .operation)) h))
+  unfolding step
+  cut-refused h = rw (cut-debris p r l debris f h)

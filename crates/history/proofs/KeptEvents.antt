@@ -28,11 +28,11 @@ use Rattle.plain.specs.Refusals.{number}
 use Rattle.plain.specs.Sound.{meterSound, operationSound, commandSound, sound}
 use Rattle.plain.specs.Commands.{effected}
 use Rattle.plain.specs.Time.{Moment, ticks}
-use Rattle.plain.specs.Machine.{Outcome, outcome, refused, ladder, now, waited, readEvent, writeEvent, waitEvent, cutEvent, step}
+use Rattle.plain.specs.Machine.{Outcome, outcome, refused, ladder, now, waited, readEvent, writeEvent, waitEvent, cutEvent, step, Fit}
 use Rattle.plain.proofs.Tools.{by-test, clash}
 use Rattle.plain.proofs.Facts.{sound-clock, sound-charge, sound-bits, sound-operation, sound-command}
 use Rattle.plain.proofs.FactsHold.{meter-holds, sound-holds, idle-holds}
-use Rattle.plain.proofs.Ladder.{Fit, by-ladder}
+use Rattle.plain.proofs.Ladder.{by-ladder}
 use Rattle.plain.proofs.Quick.{wait-taken}
 use Rattle.plain.proofs.Register.{ground-sound}
 use Rattle.plain.proofs.SoundTime.{ticks-going, ticks-clock}

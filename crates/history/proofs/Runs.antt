@@ -21,11 +21,11 @@ use Rattle.plain.specs.Commands.{written, effected}
 use Rattle.plain.specs.Time.{ticks}
 use Rattle.plain.specs.Status.{polls, readingOn, rests, look}
 use Rattle.plain.specs.Cut.{debrisNeeded}
-use Rattle.plain.specs.Machine.{Outcome, outcome, refused, ladder, now, waited, cutTaken, readEvent, writeEvent, waitEvent, cutEvent, step, run}
+use Rattle.plain.specs.Machine.{Outcome, outcome, refused, ladder, now, waited, cutTaken, readEvent, writeEvent, waitEvent, cutEvent, step, run, Fit}
 use Rattle.plain.specs.History.{Fact, Told, kind, unheard, cuts, wroteAs, waitedAs, cutAs, tell, told}
 use Rattle.plain.proofs.Tools.{by-test}
 use Rattle.plain.proofs.Facts.{sound-operation}
-use Rattle.plain.proofs.Ladder.{Fit, by-ladder}
+use Rattle.plain.proofs.Ladder.{by-ladder}
 use Rattle.plain.proofs.Quick.{wait-taken}
 use Rattle.history.proofs.Seen.{seenOp, seen, polled-seen, rested-seen}
 use Rattle.history.proofs.Holds.{Holds}

@@ -14,10 +14,10 @@ use Rattle.plain.specs.Events.{Event, read, write, wait, cut}
 use Rattle.plain.specs.Lent.{Lent}
 use Rattle.plain.specs.Record.{fresh}
 use Rattle.plain.specs.Cut.{debrisNeeded}
-use Rattle.plain.specs.Machine.{Outcome, ladder, now, readEvent, writeEvent, waitEvent, cutEvent, step, run}
+use Rattle.plain.specs.Machine.{Outcome, ladder, now, readEvent, writeEvent, waitEvent, cutEvent, step, run, Fit}
 use Rattle.plain.proofs.Facts.{sound-operation}
 use Rattle.plain.proofs.CutCells.{length-cut}
-use Rattle.plain.proofs.Ladder.{Fit, by-ladder}
+use Rattle.plain.proofs.Ladder.{by-ladder}
 use Rattle.plain.proofs.Quick.{wait-taken}
 use Rattle.history.proofs.Times.{waited-told}
 use Rattle.history.proofs.Kept.{always-sound, cut-accepted, cut-refused}

@@ -14,13 +14,8 @@ use Rattle.plain.specs.declared.Entry.{Entry}
 use Rattle.plain.specs.declared.Entry.the-variants.{Admitted, Barred}
 use Rattle.plain.specs.Lent.{Lent, isWhole}
 use Rattle.plain.specs.Sound.{sound}
-use Rattle.plain.specs.Machine.{Outcome, refused, entry, climbed, ladder}
+use Rattle.plain.specs.Machine.{Outcome, refused, entry, climbed, ladder, Fit}
 use Rattle.plain.proofs.Tools.{by-test, by-cases, clash}
-
--- what an admitted event knows
-pub record Fit (p : Part) (r : Device) (l : Lent) : Type 0 where
-  pub sound : sound p r ≡ true
-  pub whole : length (l .cells) ≡ wordCount p
 
 module _ (p : Part) (r : Device) (l : Lent) where
   -- ---- the entry

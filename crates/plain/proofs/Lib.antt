@@ -12,6 +12,7 @@ pub mod SoundTime
 pub mod Ends
 pub mod Leaps
 pub mod Quick
+pub mod EventLaws
 pub mod HistoryLeaps
 pub mod Worked
 pub mod CutCells

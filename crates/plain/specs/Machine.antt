@@ -1,6 +1,7 @@
 -- The plain machine: one event, and a run of them (document 01, "Refusals by number", the order of checks).
 use Prim.Native.Nat.{ℕ, _+_}
-use mathlib.Core.Bool.{Bool, not}
+use mathlib.Core.Path.{_≡_}
+use mathlib.Core.Bool.{Bool, true, not}
 use mathlib.Core.List.{List, [], _∷_}
 use lib.Dec.{ltb, leb}
 use lib.ListN.{length}
@@ -50,6 +51,11 @@ climbed (Barred n) r l taken = refused n r l
 -- an event that is refused by its own number where it fails, and is else taken
 unfoldable pub ladder : Part → Device → Lent → (fails : Bool) → (own : Refusal) → (taken : Outcome) → Outcome
 ladder p r l fails own taken = climbed (entry p r l) r l (if fails then refused own r l else taken)
+
+-- what an admitted event finds
+pub record Fit (p : Part) (r : Device) (l : Lent) : Type 0 where
+  pub sound : sound p r ≡ true
+  pub whole : length (l .cells) ≡ wordCount p
 
 -- ---- the four events
 
