@@ -1,7 +1,7 @@
 use borrow.Author.Needs.{needs}
 use Rattle.plain.specs.Refusals.{number}
-use Rattle.machine.proofs.number_of.Statement.{statement}
-use Rattle.machine.proofs.number_of.Tie as tie
+use Rattle.answers.proofs.number_of.Statement.{statement}
+use Rattle.answers.proofs.number_of.Tie as tie
 
 pub number-of-spec : {M : Type 1} → statement M
 unfolding number
