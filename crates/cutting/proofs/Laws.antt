@@ -1,30 +1,28 @@
--- How much debris a cut can need.
-use Prim.Native.Nat.{ℕ, _≤_, _<_}
-use mathlib.Core.Path.{_≡_}
+-- How much debris a cut can need, and what is left of it for the program.
+use Prim.Native.Nat.{ℕ, _+_, _^_, _<_, _≤_}
 use mathlib.Core.List.{List}
 use native.Mathlib.Omega.{arith}
-use lib.ListN.{length}
+use lib.ListN.{length, drop}
 use Rattle.geometry.specs.declared.Part.{Part}
 use Rattle.geometry.proofs.Laid.{block-fits, words-le}
 use Rattle.plain.specs.declared.Operation.{Operation}
 use Rattle.plain.specs.declared.Place.{Place}
 use Rattle.plain.specs.declared.Place.the-variants.{Nowhere, At}
-use Rattle.plain.specs.Cut.{begunBlock, begunWord, blockDebris, wordDebris, debrisNeeded}
-use Rattle.cutting.specs.Lent.{Lent}
+use Rattle.plain.specs.declared.BegunProgram.{BegunProgram}
+use Rattle.plain.specs.declared.BegunProgram.the-variants.{NoProgram, Writes}
+use Rattle.plain.specs.Programs.{debrisWords}
+use Rattle.plain.specs.Cut.{begunBlock, begunProgram, blockDebris, programDebris, debrisNeeded}
 
--- no more than the part has words
-pub block-debris-le : (p : Part) (block : Place) → blockDebris p block ≤ 8388608
-unfolding blockDebris
-block-debris-le p Nowhere = omega arith
-block-debris-le p (At b) = omega (arith, block-fits p b, words-le p)
-
-pub word-debris-le : (word : Place) → wordDebris word ≤ 1
-unfolding wordDebris
-word-debris-le Nowhere = omega arith
-word-debris-le (At a) = omega arith
+-- their sum fits: a block has no more words than the part
+pub debris-fits : (p : Part) (block : Place) (program : BegunProgram) → blockDebris p block + programDebris program < 2 ^ 64
+unfolding blockDebris programDebris debrisWords
+debris-fits p Nowhere NoProgram = omega arith
+debris-fits p Nowhere (Writes d) = omega arith
+debris-fits p (At b) NoProgram = omega (arith, block-fits p b, words-le p)
+debris-fits p (At b) (Writes d) = omega (arith, block-fits p b, words-le p)
 
 -- "a begun program needs one, after those"
-pub next-enough : {p : Part} {o : Operation} {cells debris : List ℕ} → Lent p o cells debris → (a : ℕ) → begunWord p o ≡ At a
-    → blockDebris p (begunBlock p o) < length debris
-unfolding debrisNeeded wordDebris
-next-enough lent a e = omega (arith, rw e at (lent .enough))
+pub own-enough : (p : Part) (o : Operation) (debris : List ℕ) → debrisNeeded p o ≤ length debris
+    → programDebris (begunProgram p o) ≤ length (drop (blockDebris p (begunBlock p o)) debris)
+unfolding debrisNeeded
+own-enough p o debris h = rw length-drop (omega (arith, h))

@@ -1,10 +1,12 @@
 // What has begun: "An operation has begun when its time left is below its full time; a window has not begun" (document 01).
 ghost use mathlib.Core.Path.{_≡_};
-ghost use Rattle.plain.specs.Cut.{ifBegun, begunBlock, begunInside, begunWord, insideWord, programWord};
+ghost use Rattle.plain.specs.Cut.{ifBegun, begunBlock, programBegun, begunInside, begunProgram, wordOf};
 use geometry::Part;
+use plain::BegunProgram;
 use plain::Inside;
 use plain::Operation;
 use plain::Place;
+use plain::Program;
 use plain::figures;
 
 // The block and the word that a cut would change.
@@ -22,74 +24,67 @@ pub fn begun_block(part: Part, operation: Operation) -> Place
         Operation::Programming(_) => Place::Nowhere,
         Operation::ProgramSuspended(_) => Place::Nowhere,
         Operation::Window(_) => Place::Nowhere,
-        Operation::Erasing(e) => if_begun(e.left, figures::ERASE_TIME, e.hand),
-        Operation::EraseSuspended(s) => {
-            let erase = s.erase;
-            if_begun(erase.left, figures::ERASE_TIME, erase.hand)
+        Operation::Erasing(erase) => if_begun(erase.left, figures::erase_time(part), erase.hand),
+        Operation::EraseSuspended(suspended) => {
+            let erase = suspended.erase;
+            if_begun(erase.left, figures::erase_time(part), erase.hand)
         }
-        Operation::ChipErasing(e) => if_begun(e.left, figures::CHIP_TIME, e.hand),
+        Operation::ChipErasing(erase) => if_begun(erase.left, figures::chip_time(part), erase.hand),
     }
 }
 
-// The word whose program has begun.
-pub fn begun_word(part: Part, operation: Operation) -> Place
-    ensures { λ r. ⌜ r ≡ begunWord part operation ⌝ }
-{
-    match operation {
-        Operation::Idle => Place::Nowhere,
-        Operation::Programming(q) => if_begun(q.left, figures::PROGRAM_TIME, q.at),
-        Operation::ProgramSuspended(q) => if_begun(q.left, figures::PROGRAM_TIME, q.at),
-        Operation::Window(_) => Place::Nowhere,
-        Operation::Erasing(_) => Place::Nowhere,
-        Operation::EraseSuspended(s) => {
-            let inside = s.inside;
-            begun_inside(part, inside)
-        }
-        Operation::ChipErasing(_) => Place::Nowhere,
-    }
-}
-
-fn begun_inside(part: Part, inside: Inside) -> Place
-    ensures { λ r. ⌜ r ≡ begunInside part inside ⌝ }
-{
-    match inside {
-        Inside::Nothing => Place::Nowhere,
-        Inside::Runs(q) => if_begun(q.left, figures::PROGRAM_TIME, q.at),
-    }
-}
-
-fn if_begun(left: u64, full: u64, at: usize) -> Place
-    ensures { λ r. ⌜ r ≡ ifBegun left full at ⌝ }
+fn if_begun(left: u64, full: u64, block: usize) -> Place
+    ensures { λ r. ⌜ r ≡ ifBegun left full block ⌝ }
 {
     if left < full {
-        return Place::At(at);
+        return Place::At(block);
     }
     Place::Nowhere
 }
 
-// The data of the program that runs or rests.
-pub fn program_word(operation: Operation) -> u16
-    ensures { λ r. ⌜ r ≡ programWord operation ⌝ }
+// What the program writes that has begun.
+pub fn begun_program(part: Part, operation: Operation) -> BegunProgram
+    ensures { λ r. ⌜ r ≡ begunProgram part operation ⌝ }
 {
     match operation {
-        Operation::Idle => 0,
-        Operation::Programming(q) => q.word,
-        Operation::ProgramSuspended(q) => q.word,
-        Operation::Window(_) => 0,
-        Operation::Erasing(_) => 0,
-        Operation::EraseSuspended(s) => {
-            let inside = s.inside;
-            inside_word(inside)
+        Operation::Idle => BegunProgram::NoProgram,
+        Operation::Programming(program) => program_begun(part, program),
+        Operation::ProgramSuspended(program) => program_begun(part, program),
+        Operation::Window(_) => BegunProgram::NoProgram,
+        Operation::Erasing(_) => BegunProgram::NoProgram,
+        Operation::EraseSuspended(suspended) => {
+            let inside = suspended.inside;
+            begun_inside(part, inside)
         }
-        Operation::ChipErasing(_) => 0,
+        Operation::ChipErasing(_) => BegunProgram::NoProgram,
     }
 }
 
-fn inside_word(inside: Inside) -> u16
-    ensures { λ r. ⌜ r ≡ insideWord inside ⌝ }
+fn begun_inside(part: Part, inside: Inside) -> BegunProgram
+    ensures { λ r. ⌜ r ≡ begunInside part inside ⌝ }
 {
     match inside {
-        Inside::Nothing => 0,
-        Inside::Runs(q) => q.word,
+        Inside::Nothing => BegunProgram::NoProgram,
+        Inside::Runs(program) => program_begun(part, program),
+    }
+}
+
+fn program_begun(part: Part, program: Program) -> BegunProgram
+    ensures { λ r. ⌜ r ≡ programBegun part program ⌝ }
+{
+    if program.left < figures::program_time(part) {
+        let written = program.writes;
+        return BegunProgram::Writes(written);
+    }
+    BegunProgram::NoProgram
+}
+
+// The word that such a program is named by.
+pub fn word_of(program: BegunProgram) -> Place
+    ensures { λ r. ⌜ r ≡ wordOf program ⌝ }
+{
+    match program {
+        BegunProgram::NoProgram => Place::Nowhere,
+        BegunProgram::Writes(written) => Place::At(programs::first_word(written)),
     }
 }

@@ -1,12 +1,14 @@
 // Loss of power or RESET# low, as far as the cells go (document 01, "The cut").
 ghost use mathlib.Core.Path.{_≡_};
-ghost use Prim.Native.Nat.{ℕ, _≤_, _<_};
-ghost use lib.ListN.{length, getD};
+ghost use Prim.Native.Nat.{_≤_};
+ghost use lib.ListN.{length};
 ghost use Rattle.geometry.specs.Parts.{wordCount};
-ghost use Rattle.plain.specs.Cut.{blockDebris, wordDebris, debrisNeeded, blockCut, wordCut, cutCells};
-ghost use Rattle.plain.specs.declared.Place.the-variants.{At};
-ghost use Rattle.cutting.specs.Lent.{Lent, exposedBy};
+ghost use Rattle.plain.specs.Lent.{lent};
+ghost use Rattle.plain.specs.Cut.{blockDebris, programDebris, debrisNeeded, blockCut, programCut, cutLent};
+ghost use Rattle.plain.proofs.CutCells.{Lies};
+ghost use Rattle.cutting.specs.Cuttable.{Cuttable, exposedBy};
 use geometry::Part;
+use plain::BegunProgram;
 use plain::Operation;
 use plain::Place;
 
@@ -20,7 +22,7 @@ pub fn exposed(part: Part, operation: Operation) -> Exposed
 {
     Exposed {
         block: begun::begun_block(part, operation),
-        word: begun::begun_word(part, operation),
+        word: begun::word_of(begun::begun_program(part, operation)),
     }
 }
 
@@ -29,26 +31,26 @@ pub fn debris_needed(part: Part, operation: Operation) -> usize
     ensures { λ r. ⌜ r ≡ debrisNeeded part operation ⌝ }
 {
     let block = begun::begun_block(part, operation);
-    let word = begun::begun_word(part, operation);
-    block_debris(part, block) + word_debris(word)
+    let program = begun::begun_program(part, operation);
+    block_debris(part, block) + program_debris(program)
 }
 
 // The cells after the cut. Its caller has found them whole, and the debris long enough.
 pub fn cut_cells(part: Part, operation: Operation, cells: &mut [u16], debris: &[u16])
-    requires { ⌜ Lent part operation (now cells) (now debris) ⌝ }
-    ensures { λ _. ⌜ now (cells .exit) ≡ cutCells part operation (now (debris .entry)) (now (cells .entry)) ⌝ }
+    requires { ⌜ Cuttable part operation (now cells) (now debris) ⌝ }
+    ensures { λ _. ⌜ now (cells .exit) ≡ cutLent part operation (now (debris .entry)) (lent (now (cells .entry))) .cells ⌝ }
 {
     let block = begun::begun_block(part, operation);
-    let word = begun::begun_word(part, operation);
+    let program = begun::begun_program(part, operation);
     cut_block(part, block, cells, debris);
     let next = block_debris(part, block);
-    cut_word(word, begun::program_word(operation), cells, debris, next);
+    cut_program(part, program, cells, &debris[next..]);
 }
 
 // "The block takes the debris as its words."
 fn cut_block(part: Part, block: Place, cells: &mut [u16], debris: &[u16])
     requires { ⌜ (length (now cells) ≡ wordCount part) × (blockDebris part block ≤ length (now debris)) ⌝ }
-    ensures { λ _. ⌜ now (cells .exit) ≡ blockCut part block (now (debris .entry)) (now (cells .entry)) ⌝ }
+    ensures { λ _. ⌜ now (cells .exit) ≡ blockCut part block (now (debris .entry)) (lent (now (cells .entry))) .cells ⌝ }
 {
     match block {
         Place::Nowhere => {}
@@ -58,15 +60,16 @@ fn cut_block(part: Part, block: Place, cells: &mut [u16], debris: &[u16])
     }
 }
 
-// "The program's word becomes old AND (data OR debris)": its debris is the word at `next`.
-fn cut_word(word: Place, program: u16, cells: &mut [u16], debris: &[u16], next: usize)
-    requires { ⌜ ((a : ℕ) → word ≡ At a → (a < length (now cells)) × (next < length (now debris))) ⌝ }
-    ensures { λ _. ⌜ now (cells .exit) ≡ wordCut word program (getD (now (debris .entry)) next 0) (now (cells .entry)) ⌝ }
+// "The program's word becomes old AND (data OR debris)": the debris starts with its own.
+fn cut_program(part: Part, program: BegunProgram, cells: &mut [u16], debris: &[u16])
+    requires { ⌜ (length (now cells) ≡ wordCount part) × Lies part program ⌝ }
+    requires { ⌜ programDebris program ≤ length (now debris) ⌝ }
+    ensures { λ _. ⌜ now (cells .exit) ≡ programCut program (now (debris .entry)) (lent (now (cells .entry))) .cells ⌝ }
 {
-    match word {
-        Place::Nowhere => {}
-        Place::At(at) => {
-            cells::cut_program(cells, at, program, debris[next]);
+    match program {
+        BegunProgram::NoProgram => {}
+        BegunProgram::Writes(written) => {
+            programs::cut_off(part, written, cells, debris);
         }
     }
 }
@@ -80,11 +83,11 @@ fn block_debris(part: Part, block: Place) -> usize
     }
 }
 
-fn word_debris(word: Place) -> usize
-    ensures { λ r. ⌜ r ≡ wordDebris word ⌝ }
+fn program_debris(program: BegunProgram) -> usize
+    ensures { λ r. ⌜ r ≡ programDebris program ⌝ }
 {
-    match word {
-        Place::Nowhere => 0,
-        Place::At(_) => 1,
+    match program {
+        BegunProgram::NoProgram => 0,
+        BegunProgram::Writes(written) => programs::debris_words(written),
     }
 }

@@ -2,19 +2,13 @@
 use Prim.Native.Nat.{ℕ}
 use mathlib.Core.Bool.{Bool, _&&_}
 use Rattle.geometry.specs.declared.Part.{Part}
-use Rattle.meter.specs.declared.Meter.{Meter}
-use Rattle.protection.specs.declared.Protection.{Protection}
-use Rattle.protection.specs.Protection.{afterCut}
 use Rattle.plain.specs.declared.Place.the-variants.{Nowhere}
-use Rattle.plain.specs.declared.Operation.the-variants.{Idle}
-use Rattle.plain.specs.declared.Command.the-variants.{Ground}
 use Rattle.plain.specs.declared.Device.{Device}
 use Rattle.plain.specs.Choice.{if_then_else_}
-use Rattle.plain.specs.Record.{device}
 use Rattle.plain.specs.Sound.{sound}
 use Rattle.cutting.specs.declared.begun.Exposed.{Exposed}
-use Rattle.cutting.specs.Lent.{exposedBy}
-use Rattle.reading.specs.Mapped.{givesCells}
+use Rattle.cutting.specs.Cuttable.{exposedBy}
+use Rattle.mapping.specs.Mapped.{givesCells}
 
 -- ---- "when the pack runs flat during a firmware update, which words of the flash may have changed"
 
@@ -30,7 +24,3 @@ exposedNow p r =
 
 unfoldable pub readsCells : Part → Device → (bank : ℕ) → Bool
 readsCells p r bank = sound p r && givesCells p (r .command) (r .operation) bank
-
--- the record after a cut, of the two parts that stand
-abbrev pub cutOf : Meter → Protection → Device
-cutOf m b = device m Ground Idle (afterCut b)

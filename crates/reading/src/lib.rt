@@ -1,20 +1,17 @@
-// What a read gives (document 01, "Status words"), and which banks an emulator may map.
+// What a read gives (document 01, "Status words", and the readings of "Command cycles").
 ghost use mathlib.Core.Path.{_≡_};
 ghost use Prim.Native.Nat.{_<_};
 ghost use lib.ListN.{length};
-ghost use Rattle.plain.specs.Status.{look};
+ghost use Rattle.plain.specs.Lent.{lent};
+ghost use Rattle.plain.specs.Status.{seen, look};
 use geometry::Part;
 use plain::Command;
 use plain::Operation;
 use plain::Seen;
 use protection::Protection;
 
-mod mapped;
 mod readings;
 mod resting;
-mod status;
-
-pub use mapped::gives_cells;
 
 // The word that a read sees, and the operation with its toggles afterwards: first the status of what runs in the bank, "after
 // that come identity and 58H reading; then suspension", and "any other read gives the cell".
@@ -27,19 +24,31 @@ pub fn look(
     address: usize,
 ) -> Seen
     requires { ⌜ address < length (now cells) ⌝ }
-    ensures { λ r. ⌜ r ≡ look part bits command operation (now (cells .entry)) address ⌝ }
+    ensures { λ r. ⌜ r ≡ look part bits command operation (lent (now (cells .entry))) address ⌝ }
 {
-    if status::polls(part, operation, address) {
-        return status::poll(part, operation, address);
+    if status::polls(part, operations::running_of(operation), address) {
+        let after = status::polled(part, operation, address);
+        return seen(status::status_of(operations::running_of(after)), after);
     }
     if readings::reading_on(part, command, address) {
-        return status::seen(
+        return seen(
             readings::reading_word(part, bits, command, address),
             operation,
         );
     }
-    if resting::rests(part, operation, address) {
-        return resting::rest(operation);
+    if resting::rests(part, operations::suspension_of(operation), address) {
+        let after = resting::rested(operation);
+        return seen(resting::rest_word(operations::suspension_of(after)), after);
     }
-    status::seen(cells[address], operation)
+    seen(cells[address], operation)
+}
+
+// The answer of a read.
+fn seen(word: u16, operation: Operation) -> Seen
+    ensures { λ r. ⌜ r ≡ seen word operation ⌝ }
+{
+    Seen {
+        word: word,
+        operation: operation,
+    }
 }

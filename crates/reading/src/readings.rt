@@ -1,49 +1,50 @@
 // Identity reading and 58H reading (document 01, "Command cycles").
 ghost use mathlib.Core.Path.{_≡_};
-ghost use Rattle.plain.specs.Status.{readingOn, identityWord, dybWord, readingWord};
-use crate::status::shown;
+ghost use Rattle.plain.specs.Status.{givenAt, identityWord, dybWord, givenWord, readingOn, readingWord};
 use geometry::Part;
 use plain::Command;
+use plain::Reading;
 use protection::Protection;
+use status::shown;
 
-// "90H: identity reading in the bank of this third address"; "58H: each read"
+// Does a reading answer at the address?
 pub fn reading_on(part: Part, command: Command, address: usize) -> bool
     ensures { λ r. ⌜ r ≡ readingOn part command address ⌝ }
 {
     match command {
         Command::Ground => false,
-        Command::Unlock => false,
-        Command::Unlocked => false,
-        Command::ProgramData => false,
-        Command::EraseSetup => false,
-        Command::EraseUnlock => false,
-        Command::EraseUnlocked => false,
-        Command::DybData => false,
-        Command::PpbSetup => false,
-        Command::PpbSetting(_) => false,
-        Command::PpbClearing => false,
-        Command::Identity(bank) => part.bank_of(address) == bank,
-        Command::DybReading => true,
+        Command::Entering(_) => false,
+        Command::Reads(reading) => given_at(part, reading, address),
     }
 }
 
+// "90H: identity reading in the bank of this third address"; "58H: each read"
+fn given_at(part: Part, reading: Reading, address: usize) -> bool
+    ensures { λ r. ⌜ r ≡ givenAt part reading address ⌝ }
+{
+    match reading {
+        Reading::Identity(bank) => part.bank_of(address) == bank,
+        Reading::Dybs => true,
+    }
+}
+
+// The word that it gives.
 pub fn reading_word(part: Part, bits: Protection, command: Command, address: usize) -> u16
     ensures { λ r. ⌜ r ≡ readingWord part bits command address ⌝ }
 {
     match command {
         Command::Ground => 0,
-        Command::Unlock => 0,
-        Command::Unlocked => 0,
-        Command::ProgramData => 0,
-        Command::EraseSetup => 0,
-        Command::EraseUnlock => 0,
-        Command::EraseUnlocked => 0,
-        Command::DybData => 0,
-        Command::PpbSetup => 0,
-        Command::PpbSetting(_) => 0,
-        Command::PpbClearing => 0,
-        Command::Identity(_) => identity_word(part, bits, address),
-        Command::DybReading => dyb_word(part, bits, address),
+        Command::Entering(_) => 0,
+        Command::Reads(reading) => given_word(part, bits, reading, address),
+    }
+}
+
+fn given_word(part: Part, bits: Protection, reading: Reading, address: usize) -> u16
+    ensures { λ r. ⌜ r ≡ givenWord part bits reading address ⌝ }
+{
+    match reading {
+        Reading::Identity(_) => identity_word(part, bits, address),
+        Reading::Dybs => dyb_word(part, bits, address),
     }
 }
 

@@ -1,63 +1,66 @@
 // What a suspension shows: "a listed block reads C0H plus DQ2, which flips; the block of a suspended program reads its DQ7, with
 // DQ6 and DQ2 both 1" (document 01).
 ghost use mathlib.Core.Path.{_≡_};
-ghost use Rattle.plain.specs.Status.{rests, rested, restFlipped, restWord, seen};
-use crate::status::dq7;
-use crate::status::seen;
-use crate::status::status_word;
+ghost use Rattle.plain.specs.Status.{rests, restWord, restFlipped, rested};
 use geometry::Part;
 use plain::Erase;
 use plain::Operation;
-use plain::Seen;
 use plain::SuspendedErase;
+use plain::Suspension;
+use status::status_word;
 
 // Does the block of the address wait for an operation to go on?
-pub fn rests(part: Part, operation: Operation, address: usize) -> bool
-    ensures { λ r. ⌜ r ≡ rests part operation address ⌝ }
+pub fn rests(part: Part, suspension: Suspension, address: usize) -> bool
+    ensures { λ r. ⌜ r ≡ rests part suspension address ⌝ }
 {
-    match operation {
-        Operation::Idle => false,
-        Operation::Programming(_) => false,
-        Operation::ProgramSuspended(q) => part.block_of(address) == part.block_of(q.at),
-        Operation::Window(_) => false,
-        Operation::Erasing(_) => false,
-        Operation::EraseSuspended(s) => {
-            let erase = s.erase;
+    match suspension {
+        Suspension::Unsuspended => false,
+        Suspension::OfProgram(program) => {
+            let written = program.writes;
+            part.block_of(address) == programs::block_written(part, written)
+        }
+        Suspension::OfErase(erase) => {
             let list = erase.list;
             list.has(part.block_of(address))
         }
-        Operation::ChipErasing(_) => false,
     }
 }
 
-// The word of such a block, and the operation afterwards.
-pub fn rest(operation: Operation) -> Seen
-    ensures { λ r. ⌜ r ≡ seen (restWord (rested operation)) (rested operation) ⌝ }
+// The word of such a block.
+pub fn rest_word(suspension: Suspension) -> u16
+    ensures { λ r. ⌜ r ≡ restWord suspension ⌝ }
+{
+    match suspension {
+        Suspension::Unsuspended => 0,
+        Suspension::OfProgram(program) => {
+            let written = program.writes;
+            status_word(programs::dq7(written), true, false, true)
+        }
+        Suspension::OfErase(erase) => status_word(true, true, false, erase.dq2),
+    }
+}
+
+// The operation with the toggle that it shows.
+pub fn rested(operation: Operation) -> Operation
+    ensures { λ r. ⌜ r ≡ rested operation ⌝ }
 {
     match operation {
-        Operation::Idle => seen(0, operation),
-        Operation::Programming(_) => seen(0, operation),
-        Operation::ProgramSuspended(q) => seen(status_word(dq7(q), true, false, true), operation),
-        Operation::Window(_) => seen(0, operation),
-        Operation::Erasing(_) => seen(0, operation),
-        Operation::EraseSuspended(s) => {
-            let after = rest_flipped(s);
-            let erase = after.erase;
-            seen(
-                status_word(true, true, false, erase.dq2),
-                Operation::EraseSuspended(after),
-            )
-        }
-        Operation::ChipErasing(_) => seen(0, operation),
+        Operation::Idle => operation,
+        Operation::Programming(_) => operation,
+        Operation::ProgramSuspended(_) => operation,
+        Operation::Window(_) => operation,
+        Operation::Erasing(_) => operation,
+        Operation::EraseSuspended(suspended) => Operation::EraseSuspended(rest_flipped(suspended)),
+        Operation::ChipErasing(_) => operation,
     }
 }
 
 // The suspended erase with its DQ2 flipped.
-fn rest_flipped(s: SuspendedErase) -> SuspendedErase
-    ensures { λ r. ⌜ r ≡ restFlipped s ⌝ }
+fn rest_flipped(suspended: SuspendedErase) -> SuspendedErase
+    ensures { λ r. ⌜ r ≡ restFlipped suspended ⌝ }
 {
-    let erase = s.erase;
-    let inside = s.inside;
+    let erase = suspended.erase;
+    let inside = suspended.inside;
     let list = erase.list;
     SuspendedErase {
         erase: Erase {

@@ -2,7 +2,8 @@
 // number").
 ghost use mathlib.Core.Path.{_≡_};
 ghost use Rattle.plain.specs.Record.{device, answer};
-ghost use Rattle.plain.specs.Commands.{written, effected};
+ghost use Rattle.plain.specs.Commands.{orBusy, written, effected};
+use decoder::entered;
 use geometry::Part;
 use meter::Meter;
 use plain::Answer;
@@ -12,20 +13,12 @@ use plain::Effect;
 use plain::Inside;
 use plain::Operation;
 use plain::Refusal;
+use plain::SuspendedErase;
+use plain::Suspension;
 use protection::Protection;
+use window::in_window;
 
-mod cycles;
-mod operations;
-mod running;
-mod states;
-
-pub use cycles::is_first_unlock;
-use running::at_rest;
-use running::in_window;
-use running::or_busy;
-use states::entered;
-
-// What a write does: an operation that runs decides by itself, else the register does.
+// What a write does: an operation that runs decides by itself, else the decoder does.
 pub fn written(
     part: Part,
     bits: Protection,
@@ -37,20 +30,51 @@ pub fn written(
     ensures { λ r. ⌜ r ≡ written part bits operation command address word ⌝ }
 {
     match operation {
-        Operation::Idle => entered(part, bits, operation, command, address, word),
+        Operation::Idle => entered(part, bits, Suspension::Unsuspended, command, address, word),
         Operation::Programming(program) => or_busy(word, Operation::ProgramSuspended(program)),
-        Operation::ProgramSuspended(_) => entered(part, bits, operation, command, address, word),
+        Operation::ProgramSuspended(program) => entered(
+            part,
+            bits,
+            Suspension::OfProgram(program),
+            command,
+            address,
+            word,
+        ),
         Operation::Window(erase) => in_window(part, bits, erase, address, word),
-        Operation::Erasing(erase) => or_busy(word, at_rest(erase)),
+        Operation::Erasing(erase) => or_busy(
+            word,
+            Operation::EraseSuspended(SuspendedErase {
+                erase: erase,
+                inside: Inside::Nothing,
+            }),
+        ),
         Operation::EraseSuspended(rest) => {
+            let erase = rest.erase;
             let inside = rest.inside;
             match inside {
-                Inside::Nothing => entered(part, bits, operation, command, address, word),
+                Inside::Nothing => entered(
+                    part,
+                    bits,
+                    Suspension::OfErase(erase),
+                    command,
+                    address,
+                    word,
+                ),
                 Inside::Runs(_) => Effect::Stays(Refusal::Busy),
             }
         }
         Operation::ChipErasing(_) => Effect::Stays(Refusal::Busy),
     }
+}
+
+// "B0H at any address suspends a running block erase or a running program at once"; any other write is BUSY.
+fn or_busy(word: u16, stopped: Operation) -> Effect
+    ensures { λ r. ⌜ r ≡ orBusy word stopped ⌝ }
+{
+    if word % 256 == 0xb0 {
+        return Effect::Starts(stopped);
+    }
+    Effect::Stays(Refusal::Busy)
 }
 
 // The answer to a write and the record after it: the table's column "afterwards".

@@ -4,11 +4,6 @@ ghost use Rattle.plain.specs.Record.{fresh, device};
 ghost use Rattle.plain.specs.declared.Command.the-variants.{Ground};
 ghost use Rattle.plain.specs.declared.Operation.the-variants.{Idle};
 ghost use Rattle.plain.specs.Sound.{meterSound, sound};
-
-mod commands;
-mod lists;
-mod operations;
-
 use geometry::Part;
 use meter::Meter;
 use plain::Command;
@@ -41,36 +36,34 @@ pub fn is_sound(part: Part, device: Device) -> bool
         return false;
     }
     let bits = device.bits;
-    if bits.has_stray() {
+    if bits.has_stray(part) {
         return false;
     }
     let operation = device.operation;
-    if !operations::operation_sound(part, bits, operation) {
+    if !underway::operation_sound(part, bits, operation) {
         return false;
     }
     let command = device.command;
-    commands::command_sound(operation, command)
+    standing::command_sound(part, operation, command)
 }
 
-// The same of a device at rest, by all there is to it.
-pub fn is_sound_at_rest(part: Part, meter: Meter, bits: Protection) -> bool
+// The same of an idle device at ground, by all there is to it.
+pub fn is_sound_idle(part: Part, meter: Meter, bits: Protection) -> bool
     ensures { λ r. ⌜ r ≡ sound part (device meter Ground Idle bits) ⌝ }
 {
     if !meter_sound(part, meter) {
         return false;
     }
-    if bits.has_stray() {
-        return false;
-    }
-    true
+    !bits.has_stray(part)
 }
 
-// "the clock is at most the limit; charge is at most 17,000 times the clock": in this order, so that the product fits.
+// "the clock is at most the limit; charge is at most" the running current for all of it: in this order, so that the product fits.
 fn meter_sound(part: Part, meter: Meter) -> bool
     ensures { λ r. ⌜ r ≡ meterSound part meter ⌝ }
 {
-    if figures::CLOCK_LIMIT < meter.clock {
+    if figures::clock_limit(part) < meter.clock {
         return false;
     }
-    meter.charge <= figures::RUNNING_CURRENT * meter.clock
+    let current = figures::running_current(part);
+    meter.charge <= current * meter.clock
 }

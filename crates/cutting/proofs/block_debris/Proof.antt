@@ -10,6 +10,6 @@ block-debris-spec =
     (tie.spec
     (λ c. search needs)  -- enum-told
     (λ c. search needs)  -- enum-known-block
-    (λ c κs. search needs)  -- size-of-requires
+    (λ c κs. tt)  -- size-of-requires
     (λ c. rw (c .enum-told .given .1))  -- returns
     (λ c. rw (c .size-of .ensures, c .before .before .block .given .1)))  -- returns-2

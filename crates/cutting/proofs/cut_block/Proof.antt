@@ -12,8 +12,8 @@ cut-block-spec =
     (tie.spec
     (λ c. search needs)  -- enum-told
     (λ c. search needs)  -- enum-known-block
-    (λ c κs. search needs)  -- first-of-requires
-    (λ c κs. search needs)  -- size-of-requires
+    (λ c κs. tt)  -- first-of-requires
+    (λ c κs. tt)  -- size-of-requires
     (λ c κs.
     let start = c .before .before .before .before .before .before .before .before in
     let fits = block-fits (start .args .part) (c .before .before .before .before .block .given .0 .0) in

@@ -6,6 +6,7 @@ pub exposed-spec : {M : Type 1} → statement M
 exposed-spec =
     tie.close
     (tie.spec
-    (λ c κs. search needs)  -- begun-block-requires
-    (λ c κs. search needs)  -- begun-word-requires
-    (λ c. rw (c .begun-word .ensures, c .before .begun-block .ensures)))  -- returns
+    (λ c κs. tt)  -- begun-block-requires
+    (λ c κs. tt)  -- begun-program-requires
+    (λ c κs. tt)  -- word-of-requires
+    (λ c. rw (c .word-of .ensures, c .before .begun-program .ensures, c .before .before .begun-block .ensures)))  -- returns

@@ -8,17 +8,25 @@ unfolding look
 look-spec =
     tie.close
     (tie.spec
-    (λ c κs. search needs)  -- polls-requires
-    (λ c κs. search needs)  -- poll-requires
-    (λ c. rw (c .poll .ensures, ← c .before .before .polls .ensures, c .before .if1 .taken))  -- returns
-    (λ c κs. search needs)  -- reading-on-requires
-    (λ c κs. search needs)  -- reading-word-requires
-    (λ c κs. search needs)  -- seen-requires
-    (λ c. rw (c .seen .ensures, c .before .reading-word .ensures, ← c .before .before .before .before .before .polls .ensures, c .before .before .before .before .if1 .left, ← c .before .before .before .reading-on .ensures, c .before .before .if2 .taken))  -- returns-2
-    (λ c κs. search needs)  -- rests-requires
-    (λ c κs. search needs)  -- rest-requires
-    (λ c. rw (c .rest .ensures, ← c .before .before .before .before .before .before .polls .ensures, c .before .before .before .before .before .if1 .left, ← c .before .before .before .before .reading-on .ensures, c .before .before .before .if2 .left, ← c .before .before .rests .ensures, c .before .if3 .taken))  -- returns-3
+    (λ c κs. tt)  -- running-of-requires
+    (λ c κs. tt)  -- polls-requires
+    (λ c κs. tt)  -- polled-requires
+    (λ c κs. tt)  -- running-of-requires-2
+    (λ c κs. tt)  -- status-of-requires
+    (λ c κs. tt)  -- seen-requires
+    (λ c. rw (c .seen .ensures, c .before .status-of .ensures, c .before .before .running-of2 .ensures, c .before .before .before .polled .ensures, ← c .before .before .before .before .before .before .running-of .ensures, ← c .before .before .before .before .before .polls .ensures, c .before .before .before .before .if1 .taken))  -- returns
+    (λ c κs. tt)  -- reading-on-requires
+    (λ c κs. tt)  -- reading-word-requires
+    (λ c κs. tt)  -- seen-requires-2
+    (λ c. rw (c .seen2 .ensures, c .before .reading-word .ensures, ← c .before .before .before .before .before .before .running-of .ensures, ← c .before .before .before .before .before .polls .ensures, c .before .before .before .before .if1 .left, ← c .before .before .before .reading-on .ensures, c .before .before .if2 .taken))  -- returns-2
+    (λ c κs. tt)  -- suspension-of-requires
+    (λ c κs. tt)  -- rests-requires
+    (λ c κs. tt)  -- rested-requires
+    (λ c κs. tt)  -- suspension-of-requires-2
+    (λ c κs. tt)  -- rest-word-requires
+    (λ c κs. tt)  -- seen-requires-3
+    (λ c. rw (c .seen3 .ensures, c .before .rest-word .ensures, c .before .before .suspension-of2 .ensures, c .before .before .before .rested .ensures, ← c .before .before .before .before .before .before .before .before .before .before .before .running-of .ensures, ← c .before .before .before .before .before .before .before .before .before .before .polls .ensures, c .before .before .before .before .before .before .before .before .before .if1 .left, ← c .before .before .before .before .before .before .before .before .reading-on .ensures, c .before .before .before .before .before .before .before .if2 .left, ← c .before .before .before .before .before .before .suspension-of .ensures, ← c .before .before .before .before .before .rests .ensures, c .before .before .before .before .if3 .taken))  -- returns-3
     (λ c. search needs)  -- mul-seen
     (λ c. search needs)  -- shared-slice-read-seen
-    (λ c κs. search needs)  -- seen-requires-2
-    (λ c. rw (c .seen2 .ensures, ← c .before .before .before .before .before .before .before .polls .ensures, c .before .before .before .before .before .before .if1 .left, ← c .before .before .before .before .before .reading-on .ensures, c .before .before .before .before .if2 .left, ← c .before .before .before .rests .ensures, c .before .before .if3 .left)))  -- returns-4
+    (λ c κs. tt)  -- seen-requires-4
+    (λ c. rw (c .seen4 .ensures, ← c .before .before .before .before .before .before .before .before .before .running-of .ensures, ← c .before .before .before .before .before .before .before .before .polls .ensures, c .before .before .before .before .before .before .before .if1 .left, ← c .before .before .before .before .before .before .reading-on .ensures, c .before .before .before .before .before .if2 .left, ← c .before .before .before .before .suspension-of .ensures, ← c .before .before .before .rests .ensures, c .before .before .if3 .left)))  -- returns-4

@@ -10,6 +10,6 @@ begun-inside-spec =
     (tie.spec
     (λ c. search needs)  -- enum-told
     (λ c. search needs)  -- enum-known-inside
-    (λ c κs. search needs)  -- if-begun-requires
+    (λ c κs. tt)  -- program-begun-requires
     (λ c. rw (c .enum-told .given .1))  -- returns
-    (λ c. rw (c .if-begun .ensures, c .before .before .inside .given .1)))  -- returns-2
+    (λ c. rw (c .program-begun .ensures, c .before .before .inside .given .1)))  -- returns-2

@@ -8,8 +8,8 @@ identity-word-spec =
     tie.close
     (tie.spec
     (λ c. rw (eq-eqb _ _ (c .if1 .taken)))  -- returns
-    (λ c κs. search needs)  -- block-of-requires
-    (λ c κs. search needs)  -- has-requires
-    (λ c κs. search needs)  -- shown-requires
+    (λ c κs. tt)  -- block-of-requires
+    (λ c κs. tt)  -- has-requires
+    (λ c κs. tt)  -- shown-requires
     (λ c. rw (c .shown .ensures .0, c .before .has .ensures, c .before .before .block-of .ensures, ne-eqb _ _ (c .before .before .before .before .before .if1 .left), eq-eqb _ _ (c .before .before .before .before .if2 .taken)))  -- returns-2
     (λ c. rw (ne-eqb _ _ (c .before .if1 .left), ne-eqb _ _ (c .if2 .left))))  -- returns-3

@@ -10,28 +10,8 @@ reading-on-spec =
     (tie.spec
     (λ c. search needs)  -- enum-told
     (λ c. search needs)  -- enum-told-2
-    (λ c. search needs)  -- enum-told-3
-    (λ c. search needs)  -- enum-told-4
-    (λ c. search needs)  -- enum-told-5
-    (λ c. search needs)  -- enum-told-6
-    (λ c. search needs)  -- enum-told-7
-    (λ c. search needs)  -- enum-told-8
-    (λ c. search needs)  -- enum-told-9
-    (λ c. search needs)  -- enum-told-10
-    (λ c. search needs)  -- enum-told-11
     (λ c. search needs)  -- enum-known-command
-    (λ c κs. search needs)  -- bank-of-requires
-    (λ c. search needs)  -- enum-told-12
+    (λ c κs. tt)  -- given-at-requires
     (λ c. rw (c .enum-told .given .1))  -- returns
     (λ c. rw (c .enum-told2 .given .1))  -- returns-2
-    (λ c. rw (c .enum-told3 .given .1))  -- returns-3
-    (λ c. rw (c .enum-told4 .given .1))  -- returns-4
-    (λ c. rw (c .enum-told5 .given .1))  -- returns-5
-    (λ c. rw (c .enum-told6 .given .1))  -- returns-6
-    (λ c. rw (c .enum-told7 .given .1))  -- returns-7
-    (λ c. rw (c .enum-told8 .given .1))  -- returns-8
-    (λ c. rw (c .enum-told9 .given .1))  -- returns-9
-    (λ c. rw (c .enum-told10 .given .1))  -- returns-10
-    (λ c. rw (c .enum-told11 .given .1))  -- returns-11
-    (λ c. rw (c .bank-of .ensures, c .before .before .command .given .1))  -- returns-12
-    (λ c. rw (c .enum-told12 .given .1)))  -- returns-13
+    (λ c. rw (c .given-at .ensures, c .before .before .command .given .1)))  -- returns-3

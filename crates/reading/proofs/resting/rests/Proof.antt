@@ -9,20 +9,12 @@ rests-spec =
     tie.close
     (tie.spec
     (λ c. search needs)  -- enum-told
-    (λ c. search needs)  -- enum-told-2
-    (λ c. search needs)  -- enum-known-operation
-    (λ c κs. search needs)  -- block-of-requires
-    (λ c κs. search needs)  -- block-of-requires-2
-    (λ c. search needs)  -- enum-told-3
-    (λ c. search needs)  -- enum-told-4
-    (λ c. search needs)  -- enum-known-operation-2
-    (λ c κs. search needs)  -- block-of-requires-3
-    (λ c κs. search needs)  -- has-requires
-    (λ c. search needs)  -- enum-told-5
+    (λ c. search needs)  -- enum-known-suspension
+    (λ c κs. tt)  -- block-of-requires
+    (λ c κs. tt)  -- block-written-requires
+    (λ c. search needs)  -- enum-known-suspension-2
+    (λ c κs. tt)  -- block-of-requires-2
+    (λ c κs. tt)  -- has-requires
     (λ c. rw (c .enum-told .given .1))  -- returns
-    (λ c. rw (c .enum-told2 .given .1))  -- returns-2
-    (λ c. rw (c .block-of2 .ensures, c .before .block-of .ensures, c .before .before .before .operation .given .1))  -- returns-3
-    (λ c. rw (c .enum-told3 .given .1))  -- returns-4
-    (λ c. rw (c .enum-told4 .given .1))  -- returns-5
-    (λ c. rw (c .has .ensures, c .before .block-of3 .ensures, c .before .before .before .before .before .operation2 .given .1))  -- returns-6
-    (λ c. rw (c .enum-told5 .given .1)))  -- returns-7
+    (λ c. rw (c .block-written .ensures, c .before .block-of .ensures, c .before .before .before .before .suspension .given .1))  -- returns-2
+    (λ c. rw (c .has .ensures, c .before .block-of2 .ensures, c .before .before .before .before .suspension2 .given .1)))  -- returns-3

@@ -1,0 +1,27 @@
+use borrow.Author.Needs.{needs}
+use Rattle.plain.specs.Cut.{begunProgram}
+use Rattle.cutting.proofs.begun.begun_program.Statement.{statement}
+use Rattle.cutting.proofs.begun.begun_program.Tie as tie
+
+pub begun-program-spec : {M : Type 1} → statement M
+unfolding begunProgram
+begun-program-spec =
+    tie.close
+    (tie.spec
+    (λ c. search needs)  -- enum-told
+    (λ c. search needs)  -- enum-known-operation
+    (λ c κs. tt)  -- program-begun-requires
+    (λ c. search needs)  -- enum-known-operation-2
+    (λ c κs. tt)  -- program-begun-requires-2
+    (λ c. search needs)  -- enum-told-2
+    (λ c. search needs)  -- enum-told-3
+    (λ c. search needs)  -- enum-known-operation-3
+    (λ c κs. tt)  -- begun-inside-requires
+    (λ c. search needs)  -- enum-told-4
+    (λ c. rw (c .enum-told .given .1))  -- returns
+    (λ c. rw (c .program-begun .ensures, c .before .before .operation .given .1))  -- returns-2
+    (λ c. rw (c .program-begun2 .ensures, c .before .before .operation2 .given .1))  -- returns-3
+    (λ c. rw (c .enum-told2 .given .1))  -- returns-4
+    (λ c. rw (c .enum-told3 .given .1))  -- returns-5
+    (λ c. rw (c .begun-inside .ensures, c .before .before .operation3 .given .1))  -- returns-6
+    (λ c. rw (c .enum-told4 .given .1)))  -- returns-7

@@ -1,2 +1,0 @@
-pub mod GivesCells
-pub mod Disturbed

@@ -1,9 +1,0 @@
-use Rattle.register.proofs.states.unless_locked.Statement.{statement}
-use Rattle.register.proofs.states.unless_locked.Tie as tie
-
-pub unless-locked-spec : {M : Type 1} → statement M
-unless-locked-spec =
-    tie.close
-    (tie.spec
-    (λ c. rw (c .if1 .taken))  -- returns
-    (λ c. rw (c .if1 .left)))  -- returns-2

@@ -1,0 +1,16 @@
+use borrow.Author.Needs.{needs}
+use Rattle.plain.specs.Commands.{afterA0}
+use Rattle.starting.proofs.after_a0.Statement.{statement}
+use Rattle.starting.proofs.after_a0.Tie as tie
+
+pub after-a0-spec : {M : Type 1} → statement M
+unfolding afterA0
+after-a0-spec =
+    tie.close
+    (tie.spec
+    (λ c κs. search needs)  -- writing-requires
+    (λ c κs. search needs)  -- block-written-requires
+    (λ c κs. search needs)  -- is-protected-requires
+    (λ c. rw (← c .before .before .before .writing .ensures, ← c .before .before .block-written .ensures, ← c .before .is-protected .ensures, c .if1 .taken))  -- returns
+    (λ c κs. search needs)  -- begins-requires
+    (λ c. rw (c .begins .ensures, ← c .before .before .before .before .writing .ensures, ← c .before .before .before .block-written .ensures, ← c .before .before .is-protected .ensures, c .before .if1 .left)))  -- returns-2

@@ -1,0 +1,65 @@
+// The writes that start or resume an operation (document 01, "Command cycles").
+ghost use mathlib.Core.Path.{_≡_};
+ghost use Rattle.plain.specs.Commands.{resumes, afterA0, after80Unlocked};
+use cycles::is_cycle;
+use geometry::Part;
+use plain::Command;
+use plain::Effect;
+use plain::Operation;
+use plain::Refusal;
+use plain::Suspension;
+use programs::block_written;
+use programs::writing;
+use protection::Protection;
+
+mod erases;
+mod programming;
+
+use erases::block_erase;
+use erases::chip_erase;
+use programming::begins;
+
+// "In suspension 30H at any address resumes from ground"
+pub fn resumes(suspension: Suspension) -> Effect
+    ensures { λ r. ⌜ r ≡ resumes suspension ⌝ }
+{
+    match suspension {
+        Suspension::Unsuspended => Effect::Falls(Refusal::Sequence),
+        Suspension::OfProgram(program) => Effect::Starts(Operation::Programming(program)),
+        Suspension::OfErase(erase) => Effect::Starts(Operation::Erasing(erase)),
+    }
+}
+
+// A0H, then a data cycle, where F0H is data: "address and all 16 data bits of a program".
+pub fn after_a0(
+    part: Part,
+    bits: Protection,
+    suspension: Suspension,
+    address: usize,
+    word: u16,
+) -> Effect
+    ensures { λ r. ⌜ r ≡ afterA0 part bits suspension address word ⌝ }
+{
+    let written = writing(address, word);
+    if bits.is_protected(block_written(part, written)) {
+        return Effect::Falls(Refusal::Protected);
+    }
+    begins(part, suspension, written)
+}
+
+// "10H at 555H (chip erase) or 30H at any address of a block (block erase)"
+pub fn after_80_unlocked(part: Part, bits: Protection, address: usize, word: u16) -> Effect
+    ensures { λ r. ⌜ r ≡ after80Unlocked part bits address word ⌝ }
+{
+    let code = word % 256;
+    if code == 0xf0 {
+        return Effect::Goes(Command::Ground);
+    }
+    if is_cycle(address, word, 0x555, 0x10) {
+        return chip_erase(part, bits);
+    }
+    if code == 0x30 {
+        return block_erase(part, bits, part.block_of(address));
+    }
+    Effect::Falls(Refusal::Sequence)
+}

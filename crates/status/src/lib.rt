@@ -1,0 +1,116 @@
+// The status words of what runs (document 01, "Status words").
+ghost use mathlib.Core.Path.{_≡_};
+ghost use mathlib.Core.Bool.{not};
+ghost use Rattle.plain.specs.Choice.{if_then_else_};
+ghost use Rattle.plain.specs.Status.{polls, programPolled, erasePolled, insidePolled, polled, status};
+use geometry::Part;
+use plain::Erase;
+use plain::Inside;
+use plain::Operation;
+use plain::Program;
+use plain::Running;
+use plain::SuspendedErase;
+
+mod word;
+
+pub use word::shown;
+pub use word::status_word;
+
+// "A read in the bank of a running operation (window included; any bank in a chip erase) gives a status word."
+pub fn polls(part: Part, running: Running, address: usize) -> bool
+    ensures { λ r. ⌜ r ≡ polls part running address ⌝ }
+{
+    match running {
+        Running::Still => false,
+        Running::Programs(program) => {
+            let written = program.writes;
+            part.bank_of(address) == programs::bank_written(part, written)
+        }
+        Running::Waits(erase) => part.bank_of(address) == part.bank_of_block(erase.hand),
+        Running::Erases(erase) => part.bank_of(address) == part.bank_of_block(erase.hand),
+        Running::ErasesChip(_) => true,
+    }
+}
+
+// The operation with the toggles that such a read shows.
+pub fn polled(part: Part, operation: Operation, address: usize) -> Operation
+    ensures { λ r. ⌜ r ≡ polled part operation address ⌝ }
+{
+    match operation {
+        Operation::Idle => operation,
+        Operation::Programming(program) => Operation::Programming(program_polled(program)),
+        Operation::ProgramSuspended(_) => operation,
+        Operation::Window(erase) => Operation::Window(erase_polled(part, erase, address)),
+        Operation::Erasing(erase) => Operation::Erasing(erase_polled(part, erase, address)),
+        Operation::EraseSuspended(suspended) => {
+            let erase = suspended.erase;
+            let inside = suspended.inside;
+            let after = inside_polled(inside);
+            Operation::EraseSuspended(SuspendedErase {
+                erase: erase,
+                inside: after,
+            })
+        }
+        Operation::ChipErasing(erase) => Operation::ChipErasing(erase_polled(part, erase, address)),
+    }
+}
+
+fn inside_polled(inside: Inside) -> Inside
+    ensures { λ r. ⌜ r ≡ insidePolled inside ⌝ }
+{
+    match inside {
+        Inside::Nothing => Inside::Nothing,
+        Inside::Runs(program) => Inside::Runs(program_polled(program)),
+    }
+}
+
+// "Each such read flips DQ6 and shows the new value."
+fn program_polled(program: Program) -> Program
+    ensures { λ r. ⌜ r ≡ programPolled program ⌝ }
+{
+    let written = program.writes;
+    Program {
+        writes: written,
+        left: program.left,
+        dq6: !program.dq6,
+    }
+}
+
+// "DQ2 flipped and shown if the address is in a listed block, finished or not, else shown unflipped"
+fn erase_polled(part: Part, erase: Erase, address: usize) -> Erase
+    ensures { λ r. ⌜ r ≡ erasePolled part erase address ⌝ }
+{
+    let list = erase.list;
+    Erase {
+        list: list,
+        hand: erase.hand,
+        left: erase.left,
+        dq6: !erase.dq6,
+        dq2: flipped(list.has(part.block_of(address)), erase.dq2),
+    }
+}
+
+fn flipped(hit: bool, bit: bool) -> bool
+    ensures { λ r. ⌜ r ≡ (if hit then not bit else bit) ⌝ }
+{
+    if hit {
+        return !bit;
+    }
+    bit
+}
+
+// "Program: DQ7 is the complement of data bit 7, DQ2 shows 1, DQ3 0. Erase: DQ7 0, DQ3 1 except 0 in the window"
+pub fn status_of(running: Running) -> u16
+    ensures { λ r. ⌜ r ≡ status running ⌝ }
+{
+    match running {
+        Running::Still => 0,
+        Running::Programs(program) => {
+            let written = program.writes;
+            status_word(programs::dq7(written), program.dq6, false, true)
+        }
+        Running::Waits(erase) => status_word(false, erase.dq6, false, erase.dq2),
+        Running::Erases(erase) => status_word(false, erase.dq6, true, erase.dq2),
+        Running::ErasesChip(erase) => status_word(false, erase.dq6, true, erase.dq2),
+    }
+}

@@ -1,0 +1,2 @@
+pub mod ByWords
+pub mod Chain

@@ -1,0 +1,24 @@
+use borrow.Author.Needs.{needs}
+use Rattle.plain.specs.Sound.{programSound}
+use Rattle.underway.proofs.Chain.{fails, passes}
+use Rattle.underway.proofs.program_sound.Statement.{statement}
+use Rattle.underway.proofs.program_sound.Tie as tie
+
+pub program-sound-spec : {M : Type 1} → statement M
+unfolding programSound
+program-sound-spec =
+    tie.close
+    (tie.spec
+    (λ c κs. search needs)  -- lies-in-requires
+    (λ c. fails _ (c .before .lies-in .ensures) (c .if1 .taken))  -- returns
+    (λ c κs. search needs)  -- program-time-requires
+    (λ c κs. search needs)  -- time-sound-requires
+    (λ c.
+    passes (c .before .before .before .before .lies-in .ensures) (c .before .before .before .if1 .left)
+    (fails _ (rw (c .before .before .program-time .ensures) at (c .before .time-sound .ensures)) (c .if2 .taken)))  -- returns-2
+    (λ c κs. search needs)  -- block-written-requires
+    (λ c κs. search needs)  -- is-protected-requires
+    (λ c.
+    passes (c .before .before .before .before .before .before .lies-in .ensures) (c .before .before .before .before .before .if1 .left)
+    (passes (rw (c .before .before .before .before .program-time .ensures) at (c .before .before .before .time-sound .ensures)) (c .before .before .if2 .left)
+    (rw (c .is-protected .ensures, c .before .block-written .ensures)))))  -- returns-3
