@@ -1,24 +1,29 @@
+use native.Mathlib.Omega.{arith}
+use borrow.Rule.Slice.PartAt.{part-to-end}
 use borrow.Author.Needs.{needs}
-use Rattle.plain.specs.Cut.{debrisNeeded, cutLent}
-use Rattle.plain.proofs.CutCells.{block-enough}
+use Rattle.plain.specs.Cut.{cutLent}
+use Rattle.cutting.proofs.Laws.{block-within, next-within, own-within, still-whole}
 use Rattle.cutting.proofs.cut_cells.Statement.{statement}
 use Rattle.cutting.proofs.cut_cells.Tie as tie
 
 pub cut-cells-spec : {M : Type 1} → statement M
-unfolding debrisNeeded cutLent
+unfolding cutLent
 cut-cells-spec =
     tie.close
     (tie.spec
     (λ c κs. tt)  -- begun-block-requires
     (λ c κs. tt)  -- begun-program-requires
-    (λ c κs.
-    let start = c .before .before .before .before .before in
-    (start .pre .whole, rw (c .before .before .begun-block .ensures) (block-enough _ _ _ _ (start .pre .whole) (start .pre .enough))))  -- cut-block-requires
+    (λ c κs. (c .before .before .before .before .before .pre .whole, block-within (c .before .before .before .before .before .pre) _ (c .before .before .begun-block .ensures)))  -- cut-block-requires
     (λ c κs. tt)  -- block-debris-requires
-    (λ c. ?)  -- mul-cut-program
-    (λ c. ?)  -- sub-cut-program
-    (λ c. ?)  -- part-cut-program-start
+    (λ c. omega (arith, next-within (c .before .before .before .before .before .before .before .before .before .before .pre) _ _ (c .before .block-debris .ensures) (c .before .before .before .before .before .before .before .begun-block .ensures)))  -- mul-cut-program
+    (λ c. next-within (c .before .before .before .before .before .before .before .before .before .before .pre) _ _ (c .before .block-debris .ensures) (c .before .before .before .before .before .before .before .begun-block .ensures))  -- sub-cut-program
+    (λ c. next-within (c .before .before .before .before .before .before .before .before .before .before .pre) _ _ (c .before .block-debris .ensures) (c .before .before .before .before .before .before .before .begun-block .ensures))  -- part-cut-program-start
     (λ c. search needs)  -- part-cut-program-end
-    (λ c κs. ?)  -- cut-program-requires
+    (λ c κs.
+    let start = c .before .before .before .before .before .before .before .before .before .before .before in
+    let block = c .before .before .before .before .before .before .before .before .begun-block .ensures in
+    let program = c .before .before .before .before .before .before .before .begun-program .ensures in
+    ((rw (c .before .before .before .before .before .cut-block .ensures, block) (still-whole (start .pre)), rw program (start .pre .inside)),
+    rw (part-to-end (start .args .debris .now) (c .before .before .block-debris .result), program, c .before .before .block-debris .ensures, block) (own-within (start .pre))))  -- cut-program-requires
     (λ c. search needs)  -- same-length
-    (λ c. rw (c .before .before .cut-program .ensures, c .before .before .before .before .before .block-debris .ensures, c .before .before .before .before .before .before .before .before .cut-block .ensures, c .before .before .before .before .before .before .before .before .before .before .begun-program .ensures, c .before .before .before .before .before .before .before .before .before .before .before .begun-block .ensures)))  -- returns
+    (λ c. rw (c .before .before .cut-program .ensures, part-to-end (c .before .before .before .before .before .before .before .before .before .before .before .before .before .before .args .debris .now) (c .before .before .before .before .before .block-debris .result), c .before .before .before .before .before .block-debris .ensures, c .before .before .before .before .before .before .before .before .cut-block .ensures, c .before .before .before .before .before .before .before .before .before .before .begun-program .ensures, c .before .before .before .before .before .before .before .before .before .before .before .begun-block .ensures)))  -- returns

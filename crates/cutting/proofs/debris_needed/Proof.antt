@@ -13,5 +13,5 @@ debris-needed-spec =
     (λ c κs. tt)  -- begun-program-requires
     (λ c κs. tt)  -- block-debris-requires
     (λ c κs. tt)  -- program-debris-requires
-    (λ c. rw (c .program-debris .ensures, c .before .block-debris .ensures) (debris-fits _ _ _))  -- add-result
+    (λ c. rw (c .program-debris .ensures, c .before .block-debris .ensures) (record { fits = debris-fits _ _ _ }))  -- add-result
     (λ c. rw (c .program-debris .ensures, c .before .block-debris .ensures, c .before .before .begun-program .ensures, c .before .before .before .begun-block .ensures)))  -- returns
