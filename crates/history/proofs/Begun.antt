@@ -18,19 +18,19 @@ use Rattle.plain.specs.declared.Operation.{Operation}
 use Rattle.plain.specs.declared.Operation.the-variants.{Idle, Programming, ProgramSuspended, Window, Erasing, EraseSuspended, ChipErasing}
 use Rattle.plain.specs.declared.Place.{Place}
 use Rattle.plain.specs.declared.Place.the-variants.{At}
-use Rattle.plain.specs.declared.BegunProgram.{BegunProgram}
 use Rattle.plain.specs.declared.BegunProgram.the-variants.{Writes}
 use Rattle.plain.specs.Choice.{if_then_else_}
 use Rattle.plain.specs.Figures.{programTime, eraseTime, chipTime}
-use Rattle.plain.specs.Programs.{liesIn, blockWritten}
+use Rattle.plain.specs.Programs.{blockWritten}
 use Rattle.plain.specs.Sound.{operationSound}
 use Rattle.plain.specs.Cut.{begun, ifBegun, begunBlock, programBegun, begunInside, begunProgram}
 use Rattle.plain.specs.History.{Doing, programs, pauses, erases, wipes, rests, programsIn}
 use Rattle.plain.specs.Promises.{ProgramBegun, EraseBegun}
 use Rattle.plain.specs.Promises as said
 use Rattle.plain.proofs.Tools.{by-test, clash}
+use Rattle.plain.proofs.BegunSound.{begins}
 use Rattle.plain.proofs.CutCells.{nowhere, no-program}
-use Rattle.plain.proofs.Facts.{ProgramFacts, EraseFacts, programming, program-suspended, erasing, erase-suspended, chip-erasing, inside-runs}
+use Rattle.plain.proofs.Facts.{EraseFacts, erasing, erase-suspended, chip-erasing, inside-runs}
 use Rattle.history.proofs.Seen.{seenInside, seenOp}
 
 -- ---- a block, or a program, that has begun
@@ -46,15 +46,6 @@ there left full b a =
 
 here : (left full b : ℕ) → 0 < full - left → ifBegun left full b ≡ At b
 here left full b g = rw (lt-ltb left full (omega arith))
-
-record Begins (p : Part) (q : Program) (d : Written) : Type 0 where
-  time : 0 < programTime p - q .left
-  what : q .writes ≡ d
-
-begins : (p : Part) (q : Program) (d : Written) → programBegun p q ≡ Writes d → Begins p q d
-begins p q d =
-    by-test (λ (x : BegunProgram). x ≡ Writes d → Begins p q d) (begun (q .left) (programTime p))
-    (λ t e. record { time = omega (arith, ltb-true (q .left) (programTime p) t); what = cc }) (λ t e. no-program e)
 
 writing : (p : Part) (q : Program) → 0 < programTime p - q .left → programBegun p q ≡ Writes (q .writes)
 writing p q g = rw (lt-ltb (q .left) (programTime p) (omega arith))
@@ -133,28 +124,6 @@ module _ (p : Part) where
   -- ---- by soundness the program and the block are apart, in the part, and unprotected
 
   module _ (bits : Protection) where
-    pub record ProgramFree (d : Written) : Type 0 where
-      pub lies : liesIn p d ≡ true
-      pub free : protected bits (blockWritten p d) ≡ false
-
-    free-of : (q : Program) (d : Written) → ProgramFacts p bits q → programBegun p q ≡ Writes d → ProgramFree d
-    free-of q d f e = rw (← begins p q d e .what) (record { lies = f .in-part; free = f .unprotected })
-
-    inside-free : (x : SuspendedErase) (i : Inside) → x .inside ≡ i → operationSound p bits (EraseSuspended x) ≡ true → (d : Written) → begunInside p i ≡ Writes d → ProgramFree d
-    unfolding begunInside
-    inside-free x Nothing t s d e = no-program e
-    inside-free x (Runs q) t s d e = free-of q d (inside-runs p bits x q s t .program) e
-
-    pub program-free : (o : Operation) → operationSound p bits o ≡ true → (d : Written) → begunProgram p o ≡ Writes d → ProgramFree d
-    unfolding begunProgram
-    program-free Idle s d e = no-program e
-    program-free (Programming q) s d e = free-of q d (programming p bits q s) e
-    program-free (ProgramSuspended q) s d e = free-of q d (program-suspended p bits q s) e
-    program-free (Window x) s d e = no-program e
-    program-free (Erasing x) s d e = no-program e
-    program-free (EraseSuspended x) s d e = inside-free x (x .inside) refl s d e
-    program-free (ChipErasing x) s d e = no-program e
-
     block-free-of : (e : Erase) (full b : ℕ) → EraseFacts p bits e full → ifBegun (e .left) full (e .hand) ≡ At b → protected bits b ≡ false
     block-free-of e full b f d = rw (← there (e .left) full (e .hand) b d .place) (f .unprotected (e .hand) (f .hand-listed))
 

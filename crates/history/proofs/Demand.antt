@@ -27,6 +27,7 @@ use Rattle.plain.specs.Machine.{Outcome, cutTaken, cutEvent, step, run, Fit}
 use Rattle.plain.specs.History.{Fact, Told, holds}
 use Rattle.plain.specs.Promises.{ProgramBegun, EraseBegun, Left, Demand3, Holding, ChargeByHistory}
 use Rattle.plain.proofs.Tools.{by-cases, clash}
+use Rattle.plain.proofs.BegunSound.{program-free, begun-lies}
 use Rattle.plain.proofs.CutCells.{Lies, program-out, program-hit, block-out, block-hit, block-enough, block-size, length-cut, untouched}
 use Rattle.plain.proofs.Facts.{sound-operation}
 use Rattle.plain.proofs.Ladder.{by-ladder}
@@ -34,7 +35,7 @@ use Rattle.plain.proofs.Programs.{written-in-block, one-written}
 use Rattle.history.proofs.Seen.{seenOp, seen}
 use Rattle.history.proofs.Holds.{Holds}
 use Rattle.history.proofs.Runs.{run-told}
-use Rattle.history.proofs.Begun.{program-told, block-told, program-is, block-is, same-program, same-block, program-free, block-free, apart}
+use Rattle.history.proofs.Begun.{program-told, block-told, program-is, block-is, same-program, same-block, block-free, apart}
 
 -- ---- what the cut leaves, given the record
 
@@ -44,7 +45,7 @@ module _ (p : Part) (start : Lent) (fs : List Fact) (r : Device) (l : Lent) (deb
   op-sound = sound-operation p r (fit .sound) (r .operation) refl
 
   lies : Lies p (begunProgram p (r .operation))
-  lies = record { lies = λ d e. program-free p (r .bits) (r .operation) op-sound d e .lies }
+  lies = begun-lies p (r .bits) (r .operation) op-sound
 
   for-block : blockDebris p (begunBlock p (r .operation)) ≤ length debris
   for-block = block-enough p (r .operation) debris l (fit .whole) enough

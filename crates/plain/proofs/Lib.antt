@@ -16,3 +16,4 @@ pub mod EventLaws
 pub mod HistoryLeaps
 pub mod Worked
 pub mod CutCells
+pub mod BegunSound

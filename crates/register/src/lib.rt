@@ -32,14 +32,10 @@ pub fn written(
     match operation {
         Operation::Idle => entered(part, bits, Suspension::Unsuspended, command, address, word),
         Operation::Programming(program) => or_busy(word, Operation::ProgramSuspended(program)),
-        Operation::ProgramSuspended(program) => entered(
-            part,
-            bits,
-            Suspension::OfProgram(program),
-            command,
-            address,
-            word,
-        ),
+        Operation::ProgramSuspended(program) => {
+            let suspension = Suspension::OfProgram(program);
+            entered(part, bits, suspension, command, address, word)
+        }
         Operation::Window(erase) => in_window(part, bits, erase, address, word),
         Operation::Erasing(erase) => or_busy(
             word,
@@ -48,18 +44,12 @@ pub fn written(
                 inside: Inside::Nothing,
             }),
         ),
-        Operation::EraseSuspended(rest) => {
-            let erase = rest.erase;
-            let inside = rest.inside;
+        Operation::EraseSuspended(suspended) => {
+            let erase = suspended.erase;
+            let suspension = Suspension::OfErase(erase);
+            let inside = suspended.inside;
             match inside {
-                Inside::Nothing => entered(
-                    part,
-                    bits,
-                    Suspension::OfErase(erase),
-                    command,
-                    address,
-                    word,
-                ),
+                Inside::Nothing => entered(part, bits, suspension, command, address, word),
                 Inside::Runs(_) => Effect::Stays(Refusal::Busy),
             }
         }

@@ -22,8 +22,9 @@ cut-cells-spec =
     (λ c κs.
     let start = c .before .before .before .before .before .before .before .before .before .before .before in
     let block = c .before .before .before .before .before .before .before .before .begun-block .ensures in
-    let program = c .before .before .before .before .before .before .before .begun-program .ensures in
-    ((rw (c .before .before .before .before .before .cut-block .ensures, block) (still-whole (start .pre)), rw program (start .pre .inside)),
-    rw (part-to-end (start .args .debris .now) (c .before .before .block-debris .result), program, c .before .before .block-debris .ensures, block) (own-within (start .pre))))  -- cut-program-requires
+    let program = c .before .before .before .before .before .before .before .begun-program .ensures in (
+      (rw (c .before .before .before .before .before .cut-block .ensures, block) (still-whole (start .pre)), rw program (start .pre .inside)),
+      rw (part-to-end (start .args .debris .now) (c .before .before .block-debris .result), program, c .before .before .block-debris .ensures, block) (own-within (start .pre)),
+    ))  -- cut-program-requires
     (λ c. search needs)  -- same-length
     (λ c. rw (c .before .before .cut-program .ensures, part-to-end (c .before .before .before .before .before .before .before .before .before .before .before .before .before .before .args .debris .now) (c .before .before .before .before .before .block-debris .result), c .before .before .before .before .before .block-debris .ensures, c .before .before .before .before .before .before .before .before .cut-block .ensures, c .before .before .before .before .before .before .before .before .before .before .begun-program .ensures, c .before .before .before .before .before .before .before .before .before .before .before .begun-block .ensures)))  -- returns

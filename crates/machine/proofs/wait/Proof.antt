@@ -1,0 +1,23 @@
+use mathlib.Core.Path.{sym, _∙_}
+use borrow.Author.Needs.{needs}
+use Rattle.plain.proofs.EventLaws.{wait-barred}
+use Rattle.plain.proofs.Ladder.{admitted}
+use Rattle.machine.proofs.Laws.{answers, leaves}
+use Rattle.machine.proofs.wait.Statement.{statement}
+use Rattle.machine.proofs.wait.Tie as tie
+
+pub wait-spec : {M : Type 1} → statement M
+wait-spec =
+    tie.close
+    (tie.spec
+    (λ c κs. search needs)  -- entry-requires
+    (λ c. search needs)  -- enum-known-entry
+    (λ c κs. search needs)  -- refused-requires
+    (λ c. search needs)  -- enum-told
+    (λ c κs. admitted _ _ _ (sym (c .before .before .before .entry .ensures) ∙ c .before .enum-told .given .1))  -- wait-requires
+    (λ c. search needs)  -- same-length
+    (λ c.
+    let same = wait-barred _ _ _ _ _ (sym (c .before .before .before .before .entry .ensures) ∙ c .before .before .entry2 .given .1) in
+    (c .refused .ensures ∙ answers same, leaves same))  -- returns
+    (λ c. search needs)  -- same-length-2
+    (λ c. c .before .before .wait .ensures))  -- returns-2
