@@ -23,10 +23,6 @@ use Rattle.mapping.specs.Mapped.{readingIn, runsIn, restsIn, givesCells}
 use Rattle.mapping.proofs.Rests.{Known, known, written-bank}
 use Rattle.mapping.proofs.GivesCells.{polls-same, reading-same}
 
--- a status word, a reading or a suspended block's word answers the read
-abbrev pub answered : Part → Command → Operation → (a : ℕ) → Bool
-answered p c o a = polls p (runningOf o) a || (readingOn p c a || rests p (suspensionOf o) a)
-
 -- an address of the bank where a test of addresses holds
 pub record Somewhere (p : Part) (bank : ℕ) (test : ℕ → Bool) : Type 0 where
   pub address : ℕ
@@ -36,8 +32,8 @@ pub record Somewhere (p : Part) (bank : ℕ) (test : ℕ → Bool) : Type 0 wher
 
 module _ (p : Part) (bank : ℕ) (test : ℕ → Bool) where
   -- at the first word of a block
-  at-block : (b : ℕ) → b < blockCount p → bankOfBlock p b ≡ bank → (bankOf p (firstOf p b) ≡ bank → blockOf p (firstOf p b) ≡ b → test (firstOf p b) ≡ true)
-      → Somewhere p bank test
+  at-block : (b : ℕ) → b < blockCount p → bankOfBlock p b ≡ bank
+      → (bankOf p (firstOf p b) ≡ bank → blockOf p (firstOf p b) ≡ b → test (firstOf p b) ≡ true) → Somewhere p bank test
   at-block b below e f =
       let at = first-bank p b below ∙ e in
       record { address = firstOf p b; in-part = first-below p b below; in-bank = at; holds = f at (first-block p b below) }
@@ -46,38 +42,49 @@ module _ (p : Part) (bank : ℕ) (test : ℕ → Bool) where
   anywhere : bank < bankCount p → ((a : ℕ) → bankOf p a ≡ bank → test a ≡ true) → Somewhere p bank test
   anywhere l f = let h = held p bank l in at-block (h .block) (h .below) (h .of-bank) (λ e g. f _ e)
 
--- a block that rests in the bank
-resting : (p : Part) (bits : Protection) (s : Suspension) → Known p bits s → (bank : ℕ) → restsIn p s bank ≡ true → Somewhere p bank (rests p s)
+-- what rests in the bank rests at one of its blocks
+resting : (p : Part) (bits : Protection) (s : Suspension) → Known p bits s → (bank : ℕ) → restsIn p s bank ≡ true
+    → Somewhere p bank (rests p s)
 unfolding Known rests restsIn
 resting p bits Unsuspended k bank e = clash e refl
 resting p bits (OfProgram q) k bank e =
     let d = q .writes in
-    let below = rw (written-in-block p d (firstWord d) (first-written p d)) at (laid p .in-block (firstWord d) (first-in-part p d (k .in-part))) in
-    at-block p bank (rests p (OfProgram q)) (blockWritten p d) below (sym (written-bank p d) ∙ sym (eqb-true bank (bankWritten p d) e)) (λ g h. eq-eqb _ _ h)
+    let in-block = laid p .in-block (firstWord d) (first-in-part p d (k .in-part)) in
+    let below = rw (written-in-block p d (firstWord d) (first-written p d)) at in-block in
+    let of-bank = sym (written-bank p d) ∙ sym (eqb-true bank (bankWritten p d) e) in
+    at-block p bank (rests p (OfProgram q)) (blockWritten p d) below of-bank (λ g h. eq-eqb _ _ h)
 resting p bits (OfErase w) k bank e =
     let b = w .hand in
-    at-block p bank (rests p (OfErase w)) b (k .erase .below b (k .erase .hand-listed)) (sym (eqb-true bank (bankOfBlock p b) e))
-    (λ g h. ap (has (w .list)) h ∙ k .erase .hand-listed)
+    let listed = k .erase .hand-listed in
+    at-block p bank (rests p (OfErase w)) b (k .erase .below b listed) (sym (eqb-true bank (bankOfBlock p b) e))
+    (λ g h. ap (has (w .list)) h ∙ listed)
 
-pub else-disturbed : (p : Part) (bits : Protection) (c : Command) (o : Operation) (bank : ℕ)
-    → operationSound p bits o ≡ true → bank < bankCount p → givesCells p c o bank ≡ false → Somewhere p bank (answered p c o)
-unfolding givesCells
-else-disturbed p bits c o bank s l e =
-    by-cases (runsIn p (runningOf o) bank) (λ t. anywhere p bank (answered p c o) l (λ a n. by-poll a (polls-same p a (runningOf o) ∙ ap (runsIn p (runningOf o)) n ∙ t)))
-    (λ t. by-cases (readingIn c bank) (λ u. anywhere p bank (answered p c o) l (λ a n. by-reading a (reading-same p a c ∙ ap (readingIn c) n ∙ u)))
-    (λ u. at-rest (resting p bits (suspensionOf o) (known p bits o s) bank (not-false (restsIn p (suspensionOf o) bank) (rw (t, u) at e)))))
-  where
-    by-poll : (a : ℕ) → polls p (runningOf o) a ≡ true → answered p c o a ≡ true
-    by-poll a h = rw h
+-- a status word, a reading or a suspended block's word answers the read
+abbrev pub answered : Part → Command → Operation → (a : ℕ) → Bool
+answered p c o a = polls p (runningOf o) a || (readingOn p c a || rests p (suspensionOf o) a)
 
-    by-reading : (a : ℕ) → readingOn p c a ≡ true → answered p c o a ≡ true
-    by-reading a h = rw h (or-true (polls p (runningOf o) a))
+module _ (p : Part) (c : Command) (o : Operation) (bank : ℕ) where
+  abbrev pub Disturbed : Type 0
+  Disturbed = Somewhere p bank (answered p c o)
 
-    at-rest : Somewhere p bank (rests p (suspensionOf o)) → Somewhere p bank (answered p c o)
-    at-rest h =
-        record {
-          address = h .address;
-          in-part = h .in-part;
-          in-bank = h .in-bank;
-          holds = rw (h .holds, or-true (readingOn p c (h .address))) (or-true (polls p (runningOf o) (h .address)));
-        }
+  by-running : bank < bankCount p → runsIn p (runningOf o) bank ≡ true → Disturbed
+  by-running l t = anywhere p bank (answered p c o) l (λ a n. rw (polls-same p a (runningOf o), n, t))
+
+  by-reading : bank < bankCount p → readingIn c bank ≡ true → Disturbed
+  by-reading l t = anywhere p bank (answered p c o) l (λ a n. rw (reading-same p a c, n, t) (or-true (polls p (runningOf o) a)))
+
+  by-rest : Somewhere p bank (rests p (suspensionOf o)) → Disturbed
+  by-rest h =
+      record {
+        address = h .address;
+        in-part = h .in-part;
+        in-bank = h .in-bank;
+        holds = rw (h .holds, or-true (readingOn p c (h .address))) (or-true (polls p (runningOf o) (h .address)));
+      }
+
+  pub else-disturbed : (bits : Protection) → operationSound p bits o ≡ true → bank < bankCount p → givesCells p c o bank ≡ false → Disturbed
+  unfolding givesCells
+  else-disturbed bits s l e =
+      by-cases (runsIn p (runningOf o) bank) (by-running l)
+      (λ t. by-cases (readingIn c bank) (by-reading l)
+      (λ u. by-rest (resting p bits (suspensionOf o) (known p bits o s) bank (not-false (restsIn p (suspensionOf o) bank) (rw (t, u) at e)))))

@@ -21,6 +21,7 @@ use Rattle.plain.proofs.Tools.{by-cases, clash}
 use Rattle.plain.proofs.Facts.{ProgramFacts, program-suspended, BlockEraseFacts, erase-suspended}
 use Rattle.mapping.specs.Mapped.{restsIn}
 
+-- what a sound record says of it
 unfoldable pub Known : Part → Protection → Suspension → Type 0
 Known p bits Unsuspended = Unit {0}
 Known p bits (OfProgram q) = ProgramFacts p bits q
@@ -39,15 +40,17 @@ known p bits (ChipErasing e) s = tt
 -- a program's bank is that of its block
 pub written-bank : (p : Part) (d : Written) → bankWritten p d ≡ bankOfBlock p (blockWritten p d)
 unfolding bankWritten blockWritten
-written-bank p d = laid p .one-bank (d .at)
+written-bank p d = laid p .one-bank _
 
--- what rests at an address rests in its bank
-rests-in : (p : Part) (bits : Protection) (s : Suspension) → Known p bits s → (a : ℕ) → rests p s a ≡ true → restsIn p s (bankOf p a) ≡ true
-unfolding Known rests restsIn
-rests-in p bits Unsuspended k a e = clash e refl
-rests-in p bits (OfProgram q) k a e =
-    eq-eqb _ _ (laid p .one-bank a ∙ ap (bankOfBlock p) (eqb-true (blockOf p a) (blockWritten p (q .writes)) e) ∙ sym (written-bank p (q .writes)))
-rests-in p bits (OfErase e) k a listed = eq-eqb _ _ (laid p .one-bank a ∙ k .one-bank (blockOf p a) listed)
+module _ (p : Part) (bits : Protection) where
+  -- what rests at an address rests in its bank
+  rests-in : (s : Suspension) → Known p bits s → (a : ℕ) → rests p s a ≡ true → restsIn p s (bankOf p a) ≡ true
+  unfolding Known rests restsIn
+  rests-in Unsuspended k a e = clash e refl
+  rests-in (OfProgram q) k a e =
+      let same = eqb-true (blockOf p a) (blockWritten p (q .writes)) e in
+      eq-eqb _ _ (laid p .one-bank a ∙ ap (bankOfBlock p) same ∙ sym (written-bank p (q .writes)))
+  rests-in (OfErase e) k a listed = eq-eqb _ _ (laid p .one-bank a ∙ k .one-bank (blockOf p a) listed)
 
-pub none-rests : (p : Part) (bits : Protection) (s : Suspension) → Known p bits s → (a : ℕ) → restsIn p s (bankOf p a) ≡ false → rests p s a ≡ false
-none-rests p bits s k a e = by-cases (rests p s a) (λ t. clash (rests-in p bits s k a t) e) (λ t. t)
+  pub none-rests : (s : Suspension) → Known p bits s → (a : ℕ) → restsIn p s (bankOf p a) ≡ false → rests p s a ≡ false
+  none-rests s k a e = by-cases (rests p s a) (λ t. clash (rests-in s k a t) e) (λ t. t)

@@ -1,4 +1,3 @@
-use borrow.Author.Needs.{needs}
 use Rattle.plain.specs.Cut.{debrisNeeded}
 use Rattle.cutting.proofs.Laws.{debris-fits}
 use Rattle.cutting.proofs.debris_needed.Statement.{statement}

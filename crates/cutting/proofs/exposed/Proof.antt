@@ -1,4 +1,3 @@
-use borrow.Author.Needs.{needs}
 use Rattle.cutting.proofs.exposed.Statement.{statement}
 use Rattle.cutting.proofs.exposed.Tie as tie
 

@@ -1,4 +1,3 @@
-use borrow.Author.Needs.{needs}
 use Rattle.mapping.specs.Mapped.{givesCells}
 use Rattle.mapping.proofs.gives_cells.Statement.{statement}
 use Rattle.mapping.proofs.gives_cells.Tie as tie

@@ -1,4 +1,3 @@
-use borrow.Author.Needs.{needs}
 use Rattle.status.proofs.erase_polled.Statement.{statement}
 use Rattle.status.proofs.erase_polled.Tie as tie
 

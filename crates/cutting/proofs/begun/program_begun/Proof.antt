@@ -1,5 +1,4 @@
 use borrow.Author.Tests.{le-ltb, lt-ltb}
-use borrow.Author.Needs.{needs}
 use Rattle.cutting.proofs.begun.program_begun.Statement.{statement}
 use Rattle.cutting.proofs.begun.program_begun.Tie as tie
 

@@ -30,6 +30,6 @@ wait-spec =
     (λ c κs. search needs)  -- done-requires
     (λ c. search needs)  -- same-length
     (λ c.
-    let limit = sound-clock _ _ (c .before .before .before .before .before .before .before .before .before .before .before .before .before .before .pre .sound) in
-    let same = wait-passes _ _ _ _ (c .before .before .before .before .before .before .before .before .before .before .before .before .before .before .pre) (omega (arith, limit, rw (c .before .before .before .before .before .before .before .before .before .before .before .clock-limit .ensures) at (c .before .before .before .before .before .before .before .before .before .if1 .left))) in
+    let limit = sound-clock _ _ (c .before .before .before .before .before .before .before .before .before .before .before .before .before .before .before .pre .sound) in
+    let same = wait-passes _ _ _ _ (c .before .before .before .before .before .before .before .before .before .before .before .before .before .before .before .pre) (omega (arith, limit, rw (c .before .before .before .before .before .before .before .before .before .before .before .before .clock-limit .ensures) at (c .before .before .before .before .before .before .before .before .before .before .if1 .left))) in
     (rw (c .done .ensures, c .before .before .before .before .pass .ensures .0) (answers same), c .before .before .before .before .pass .ensures .1 ∙ leaves same)))  -- returns-3

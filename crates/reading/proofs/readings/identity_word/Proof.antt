@@ -1,5 +1,4 @@
 use borrow.Author.Tests.{eq-eqb, ne-eqb}
-use borrow.Author.Needs.{needs}
 use Rattle.reading.proofs.readings.identity_word.Statement.{statement}
 use Rattle.reading.proofs.readings.identity_word.Tie as tie
 
