@@ -1,32 +1,36 @@
 -- What `machine::exposed` and `machine::reads_cells` tell is so.
 use Prim.Native.Nat.{ℕ, _<_, _≤_}
 use mathlib.Core.Path.{_≡_, refl, sym, ap, _∙_}
-use mathlib.Core.Bool.{Bool, true, false, _&&_, not}
+use mathlib.Core.Bool.{Bool, true, false, _&&_}
 use mathlib.Core.List.{List}
-use native.Mathlib.Omega.{arith}
-use lib.Dec.{ltb, eqb}
-use lib.ListN.{length, getD}
-use borrow.Author.Tests.{not-false, eqb-true, ltb-false}
+use lib.ListN.{length}
+use borrow.Author.Tests.{ltb-false}
 use Rattle.geometry.specs.declared.Part.{Part}
 use Rattle.geometry.specs.Parts.{wordCount, blockOf, bankOf}
-use Rattle.plain.specs.declared.Refusal.the-variants.{Done}
+use Rattle.plain.specs.declared.Refusal.the-variants.{Done, Debris}
+use Rattle.plain.specs.declared.Written.{Written}
 use Rattle.plain.specs.declared.Place.the-variants.{At}
+use Rattle.plain.specs.declared.BegunProgram.{BegunProgram}
+use Rattle.plain.specs.declared.BegunProgram.the-variants.{Writes}
 use Rattle.plain.specs.declared.Device.{Device}
-use Rattle.plain.specs.Choice.{if_then_else_}
-use Rattle.plain.specs.Record.{answer, device}
-use Rattle.plain.specs.Sound.{sound, operationSound}
-use Rattle.plain.specs.Status.{look, seen}
-use Rattle.plain.specs.Cut.{debrisNeeded, cutCells}
-use Rattle.plain.specs.Machine.{Outcome, outcome, refused, readEvent, cutEvent}
-use Rattle.plain.proofs.Tools.{by-test, both-left, both-right}
-use Rattle.plain.proofs.Facts.{sound-operation}
-use Rattle.cutting.specs.declared.begun.Exposed.{Exposed}
-use Rattle.cutting.specs.Lent.{exposedBy}
+use Rattle.plain.specs.Lent.{Lent, cellAt}
+use Rattle.plain.specs.Programs.{writes, firstWord}
+use Rattle.plain.specs.Record.{answer}
+use Rattle.plain.specs.Sound.{sound}
+use Rattle.plain.specs.Cut.{wordOf, begunProgram, debrisNeeded, cutLent}
+use Rattle.plain.specs.Machine.{Outcome, outcome, Fit, readEvent, cutEvent}
+use Rattle.plain.proofs.BegunSound.{begun-lies}
 use Rattle.plain.proofs.CutCells.{untouched}
-use Rattle.reading.specs.Mapped.{givesCells}
-use Rattle.reading.proofs.GivesCells.{gives-cells}
+use Rattle.plain.proofs.EventLaws.{read-passes}
+use Rattle.plain.proofs.Facts.{sound-operation}
+use Rattle.plain.proofs.Ladder.{by-ladder}
+use Rattle.plain.proofs.Programs.{first-written, one-written}
+use Rattle.plain.proofs.Tools.{by-cases, both-left, both-right}
+use Rattle.cutting.specs.declared.begun.Exposed.{Exposed}
+use Rattle.cutting.specs.Cuttable.{exposedBy}
+use Rattle.mapping.specs.Mapped.{givesCells}
+use Rattle.mapping.proofs.GivesCells.{gives-cells}
 use Rattle.machine.specs.Asked.{exposedNow, readsCells}
-use Rattle.machine.proofs.Events.{read-taken}
 
 -- ---- no accepted cut changes a cell outside what `exposed` tells
 
@@ -35,30 +39,33 @@ exposed-told : (p : Part) (r : Device) → sound p r ≡ true → exposedNow p r
 unfolding exposedNow
 exposed-told p r s = rw s
 
-module _ (p : Part) (r : Device) (cells debris : List ℕ) (x : ℕ) (no-word : exposedNow p r .word ≡ At x → ⊥) (no-block : (b : ℕ) → exposedNow p r .block ≡ At b → blockOf p x ≡ b → ⊥) where
+-- the word that a begun program is named by is all that it writes
+named : (p : Part) (w : BegunProgram) (d : Written) (x : ℕ) → w ≡ Writes d → writes d x ≡ true → wordOf w ≡ At x
+unfolding wordOf
+named p w d x e h = rw e (ap At (one-written p d (firstWord d) x (first-written p d) h))
+
+module _ (p : Part) (r : Device) (l : Lent) (debris : List ℕ) (x : ℕ) (no-word : exposedNow p r .word ≡ At x → ⊥) (no-block : (b : ℕ) → exposedNow p r .block ≡ At b → blockOf p x ≡ b → ⊥) where
   abbrev Spared : Outcome → Type 0
-  Spared o = getD (o .cells) x 0 ≡ getD cells x 0
+  Spared o = cellAt (o .lent) x ≡ cellAt l x
 
-  sparing : sound p r ≡ true → length cells ≡ wordCount p → debrisNeeded p (r .operation) ≤ length debris → getD (cutCells p (r .operation) debris cells) x 0 ≡ getD cells x 0
-  sparing s l n =
-      untouched p (r .operation) debris cells l n x
-      (λ e. no-word (ap (λ (y : Exposed). y .word) (exposed-told p r s) ∙ e))
-      (λ b e. no-block b (ap (λ (y : Exposed). y .block) (exposed-told p r s) ∙ e))
+  sparing : Fit p r l → debrisNeeded p (r .operation) ≤ length debris → cellAt (cutLent p (r .operation) debris l) x ≡ cellAt l x
+  sparing f n =
+      let told = exposed-told p r (f .sound) in
+      untouched p (r .operation) debris l (f .whole) n (begun-lies p (r .bits) (r .operation) (sound-operation p r (f .sound) (r .operation) refl)) x
+      (λ d e. by-cases (writes d x) (λ t. absurd (no-word (ap (λ (y : Exposed). y .word) told ∙ named p (begunProgram p (r .operation)) d x e t))) (λ t. t))
+      (λ b e. no-block b (ap (λ (y : Exposed). y .block) told ∙ e))
 
-  pub spared : getD (cutEvent p r cells debris .cells) x 0 ≡ getD cells x 0
+  pub spared : cellAt (cutEvent p r l debris .lent) x ≡ cellAt l x
   unfolding cutEvent
-  spared =
-      by-test Spared (not (sound p r)) (λ t. refl)
-      (λ t. by-test Spared (not (eqb (length cells) (wordCount p))) (λ u. refl)
-      (λ u. by-test Spared (ltb (length debris) (debrisNeeded p (r .operation))) (λ v. refl)
-      (λ v. sparing (not-false (sound p r) t) (eqb-true (length cells) (wordCount p) (not-false (eqb (length cells) (wordCount p)) u)) (ltb-false (length debris) (debrisNeeded p (r .operation)) v))))
+  spared = by-ladder p r l _ Debris _ Spared (λ _. refl) refl (λ _. refl) (λ f t. sparing f (ltb-false (length debris) (debrisNeeded p (r .operation)) t))
 
 -- ---- where `reads_cells` says so, a read gives the cell and changes nothing
 
-pub reads-cells : (p : Part) (r : Device) (cells : List ℕ) (a : ℕ) → length cells ≡ wordCount p → a < wordCount p → readsCells p r (bankOf p a) ≡ true
-    → readEvent p r cells a ≡ outcome (answer Done (getD cells a 0) r) cells
+pub reads-cells : (p : Part) (r : Device) (l : Lent) (a : ℕ) → length (l .cells) ≡ wordCount p → a < wordCount p → readsCells p r (bankOf p a) ≡ true
+    → readEvent p r l a ≡ outcome (answer Done (cellAt l a) r) l
 unfolding readsCells
-reads-cells p r cells a l h e =
+reads-cells p r l a whole h e =
     let s = both-left (sound p r) (givesCells p (r .command) (r .operation) (bankOf p a)) e in
     let g = both-right (sound p r) (givesCells p (r .command) (r .operation) (bankOf p a)) e in
-    read-taken p r cells a s l h ∙ rw (gives-cells p (r .bits) (r .command) (r .operation) cells a (sound-operation p r s (r .operation) refl) g)
+    read-passes p r l a (record { sound = s; whole = whole }) h
+    ∙ rw (gives-cells p (r .bits) (r .command) (r .operation) l a (sound-operation p r s (r .operation) refl) g)

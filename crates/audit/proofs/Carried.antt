@@ -2,7 +2,7 @@
 use Prim.Native.Nat.{ℕ, _<_}
 use mathlib.Core.Path.{_≡_, refl, sym, ap, _∙_, subst}
 use mathlib.Core.List.{List}
-use lib.ListN.{getD}
+use Rattle.plain.specs.Lent.{Lent, cellAt}
 use Rattle.geometry.specs.declared.Part.{Part}
 use Rattle.geometry.specs.declared.Part.the-variants.{Small, Full}
 use Rattle.geometry.specs.Parts.{wordCount}
@@ -18,30 +18,30 @@ use Rattle.audit.specs.Performed.{Allowed, Performed}
 use Rattle.audit.proofs.Same.{Is, allowed-is, performed-run}
 
 -- after any run of `machine::read`, `write`, `wait` and `cut` from `machine::fresh`, and a cut that is answered DONE
-pub demand-3-code : (p : Part) (start : List ℕ) (es : List Event) (debris : List ℕ) (ran : Ran) (y : Answer) (after : List ℕ)
-    → Performed p fresh start es ran → Allowed p (ran .device) (ran .cells) (cut debris) y after → y .refusal ≡ Done
-    → Left p start (history p (ran .turns)) (ran .device) (ran .cells) debris (outcome y after)
+pub demand-3-code : (p : Part) (start : Lent) (es : List Event) (debris : List ℕ) (ran : Ran) (y : Answer) (after : Lent)
+    → Performed p fresh start es ran → Allowed p (ran .device) (ran .lent) (cut debris) y after → y .refusal ≡ Done
+    → Left p start (history p (ran .turns)) (ran .device) (ran .lent) debris (outcome y after)
 demand-3-code p start es debris ran y after f g e =
     let is = allowed-is g in
-    let same : outcome y after ≡ step p (ran .device) (ran .cells) (cut debris) = λ i. outcome (is .answer i) (is .cells i) in
-    let taken : step p (ran .device) (ran .cells) (cut debris) .answer .refusal ≡ Done = ap (λ (a : Answer). a .refusal) (sym (is .answer)) ∙ e in
-    subst (λ (o : Outcome). Left p start (history p (ran .turns)) (ran .device) (ran .cells) debris o) (sym same)
+    let same : outcome y after ≡ step p (ran .device) (ran .lent) (cut debris) = λ i. outcome (is .answer i) (is .lent i) in
+    let taken : step p (ran .device) (ran .lent) (cut debris) .answer .refusal ≡ Done = ap (λ (a : Answer). a .refusal) (sym (is .answer)) ∙ e in
+    subst (λ (o : Outcome). Left p start (history p (ran .turns)) (ran .device) (ran .lent) debris o) (sym same)
     (at (performed-run f) taken)
   where
-    at : ran ≡ run p fresh start es → step p (ran .device) (ran .cells) (cut debris) .answer .refusal ≡ Done
-        → Left p start (history p (ran .turns)) (ran .device) (ran .cells) debris (step p (ran .device) (ran .cells) (cut debris))
+    at : ran ≡ run p fresh start es → step p (ran .device) (ran .lent) (cut debris) .answer .refusal ≡ Done
+        → Left p start (history p (ran .turns)) (ran .device) (ran .lent) debris (step p (ran .device) (ran .lent) (cut debris))
     at d = rw d (demand-3 p start es debris)
 
 -- at every moment of a run of the public functions each word holds what the history says
-pub holding-code : (p : Part) (start : List ℕ) (es : List Event) (ran : Ran) → Performed p fresh start es ran → (x : ℕ) → x < wordCount p
-    → getD (ran .cells) x 0 ≡ holds p start (history p (ran .turns) .facts) x
+pub holding-code : (p : Part) (start : Lent) (es : List Event) (ran : Ran) → Performed p fresh start es ran → (x : ℕ) → x < wordCount p
+    → cellAt (ran .lent) x ≡ holds p start (history p (ran .turns) .facts) x
 holding-code p start es ran f x hx = rw (performed-run f) (holding p start es x hx)
 
 -- and clock and charge are what the accepted waits give
-pub clock-code : (p : Part) (start : List ℕ) (es : List Event) (ran : Ran) → Performed p fresh start es ran → ran .device .meter .clock ≡ history p (ran .turns) .clock
+pub clock-code : (p : Part) (start : Lent) (es : List Event) (ran : Ran) → Performed p fresh start es ran → ran .device .meter .clock ≡ history p (ran .turns) .clock
 clock-code p start es ran f = rw (performed-run f) (charge-by-history p start es .clock)
 
-pub charge-code : (p : Part) (start : List ℕ) (es : List Event) (ran : Ran) → Performed p fresh start es ran → ran .device .meter .charge ≡ history p (ran .turns) .charge
+pub charge-code : (p : Part) (start : Lent) (es : List Event) (ran : Ran) → Performed p fresh start es ran → ran .device .meter .charge ≡ history p (ran .turns) .charge
 charge-code p start es ran f = rw (performed-run f) (charge-by-history p start es .charge)
 
 -- the small part and the die

@@ -1,65 +1,55 @@
 -- The contracts fix every answer: any two results that one of them allows are equal.
 use Prim.Native.Nat.{ℕ}
 use mathlib.Core.Path.{_≡_, refl, sym, ap, _∙_}
-use mathlib.Core.Bool.{not}
 use mathlib.Core.List.{List, [], _∷_}
-use lib.Dec.{ltb, eqb}
-use lib.ListN.{length}
 use Rattle.geometry.specs.declared.Part.{Part}
-use Rattle.geometry.specs.Parts.{wordCount}
+use Rattle.plain.specs.declared.Refusal.the-variants.{Address}
 use Rattle.plain.specs.declared.Device.{Device}
 use Rattle.plain.specs.declared.Answer.{Answer}
-use Rattle.plain.specs.Choice.{if_then_else_}
 use Rattle.plain.specs.Events.{Event, read, write, wait, cut}
-use Rattle.plain.specs.Sound.{sound}
-use Rattle.plain.specs.Machine.{Outcome, Ran, checked, readEvent, writeEvent, step, run}
-use Rattle.plain.proofs.Tools.{by-test}
+use Rattle.plain.specs.Lent.{Lent, lent}
+use Rattle.plain.specs.Machine.{Outcome, Ran, readEvent, writeEvent, step, run}
+use Rattle.plain.proofs.Ladder.{by-ladder}
 use Rattle.audit.specs.Performed.{Allowed, reads, writes, waits, cuts, turn, Performed, none, more}
 
--- a read and a write leave the cells
-module _ (p : Part) (r : Device) (cells : List ℕ) where
+-- a read and a write leave what is lent
+module _ (p : Part) (r : Device) (l : Lent) where
   Keeps : Outcome → Type 0
-  Keeps o = o .cells ≡ cells
+  Keeps o = o .lent ≡ l
 
-  by-checks : (a : ℕ) (out back : Outcome) → Keeps out → Keeps back → Keeps (checked p r cells (if not (ltb a (wordCount p)) then out else back))
-  unfolding Keeps
-  by-checks a out back f g =
-      by-test Keeps (not (sound p r)) (λ s. refl)
-      (λ s. by-test Keeps (not (eqb (length cells) (wordCount p))) (λ l. refl) (λ l. by-test Keeps (not (ltb a (wordCount p))) (λ t. f) (λ t. g)))
-
-  read-keeps : (a : ℕ) → readEvent p r cells a .cells ≡ cells
+  read-keeps : (a : ℕ) → readEvent p r l a .lent ≡ l
   unfolding Keeps readEvent
-  read-keeps a = by-checks a _ _ refl refl
+  read-keeps a = by-ladder p r l _ Address _ Keeps (λ _. refl) refl (λ _. refl) (λ _ _. refl)
 
-  write-keeps : (a w : ℕ) → writeEvent p r cells a w .cells ≡ cells
+  write-keeps : (a w : ℕ) → writeEvent p r l a w .lent ≡ l
   unfolding Keeps writeEvent
-  write-keeps a w = by-checks a _ _ refl refl
+  write-keeps a w = by-ladder p r l _ Address _ Keeps (λ _. refl) refl (λ _. refl) (λ _ _. refl)
 
-pub record Is (o : Outcome) (y : Answer) (after : List ℕ) : Type 0 where
+pub record Is (o : Outcome) (y : Answer) (after : Lent) : Type 0 where
   pub answer : y ≡ o .answer
-  pub cells : after ≡ o .cells
+  pub lent : after ≡ o .lent
 
 -- what a contract allows is what the plain machine gives
-pub allowed-is : {p : Part} {r : Device} {cells after : List ℕ} {e : Event} {y : Answer} → Allowed p r cells e y after → Is (step p r cells e) y after
+pub allowed-is : {p : Part} {r : Device} {l after : Lent} {e : Event} {y : Answer} → Allowed p r l e y after → Is (step p r l e) y after
 unfolding step
-allowed-is {p} {r} {cells} (reads {a} d) = record { answer = d; cells = sym (read-keeps p r cells a) }
-allowed-is {p} {r} {cells} (writes {a} {w} d) = record { answer = d; cells = sym (write-keeps p r cells a w) }
-allowed-is (waits d f) = record { answer = d; cells = f }
-allowed-is (cuts d f) = record { answer = d; cells = f }
+allowed-is {p} {r} {l} (reads {a} d) = record { answer = d; lent = sym (read-keeps p r l a) }
+allowed-is {p} {r} {l} (writes {a} {w} d) = record { answer = d; lent = sym (write-keeps p r l a w) }
+allowed-is (waits d f) = record { answer = d; lent = ap lent f }
+allowed-is (cuts d f) = record { answer = d; lent = ap lent f }
 
 -- once for all four
-pub same-answer : {p : Part} {r : Device} {cells one two : List ℕ} {e : Event} {y z : Answer} → Allowed p r cells e y one → Allowed p r cells e z two → (y ≡ z) × (one ≡ two)
-same-answer f g = (allowed-is f .answer ∙ sym (allowed-is g .answer), allowed-is f .cells ∙ sym (allowed-is g .cells))
+pub same-answer : {p : Part} {r : Device} {l one two : Lent} {e : Event} {y z : Answer} → Allowed p r l e y one → Allowed p r l e z two → (y ≡ z) × (one ≡ two)
+same-answer f g = (allowed-is f .answer ∙ sym (allowed-is g .answer), allowed-is f .lent ∙ sym (allowed-is g .lent))
 
 abbrev after : Event → Ran → Answer → Ran
-after e x z = record { device = x .device; cells = x .cells; turns = turn e z ∷ x .turns }
+after e x z = record { device = x .device; lent = x .lent; turns = turn e z ∷ x .turns }
 
-one-more : (p : Part) (r : Device) (cells now : List ℕ) (e : Event) (es : List Event) (y : Answer) (rest : Ran) → Is (step p r cells e) y now → rest ≡ run p (y .device) now es
-    → after e rest y ≡ after e (run p (step p r cells e .answer .device) (step p r cells e .cells) es) (step p r cells e .answer)
-one-more p r cells now e es y rest is h = rw (h, is .answer, is .cells)
+one-more : (p : Part) (r : Device) (l now : Lent) (e : Event) (es : List Event) (y : Answer) (rest : Ran) → Is (step p r l e) y now → rest ≡ run p (y .device) now es
+    → after e rest y ≡ after e (run p (step p r l e .answer .device) (step p r l e .lent) es) (step p r l e .answer)
+one-more p r l now e es y rest is h = rw (h, is .answer, is .lent)
 
 -- and so a run of the public functions is the plain machine's run
-pub performed-run : {p : Part} {r : Device} {cells : List ℕ} {es : List Event} {ran : Ran} → Performed p r cells es ran → ran ≡ run p r cells es
+pub performed-run : {p : Part} {r : Device} {l : Lent} {es : List Event} {ran : Ran} → Performed p r l es ran → ran ≡ run p r l es
 unfolding run
 performed-run none = refl
-performed-run {p} {r} {cells} (more {after = now} {e = e} {es = es} {y = y} {rest = rest} f g) = one-more p r cells now e es y rest (allowed-is f) (performed-run g)
+performed-run {p} {r} {l} (more {after = now} {e = e} {es = es} {y = y} {rest = rest} f g) = one-more p r l now e es y rest (allowed-is f) (performed-run g)

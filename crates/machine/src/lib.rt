@@ -6,9 +6,6 @@ ghost use Rattle.plain.specs.Record.{fresh};
 ghost use Rattle.plain.specs.Sound.{sound};
 ghost use Rattle.plain.specs.Machine.{entry, readEvent, writeEvent, waitEvent, cutEvent};
 ghost use Rattle.machine.specs.Asked.{exposedNow, readsCells};
-
-mod admitted;
-
 use cutting::Exposed;
 use geometry::Part;
 use plain::Answer;

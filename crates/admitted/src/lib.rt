@@ -1,10 +1,5 @@
 // Each event once its record is sound and its cells are whole: its own check, and what it does.
 ghost use mathlib.Core.Path.{_≡_};
-ghost use mathlib.Core.Bool.{true};
-ghost use mathlib.Core.List.{List};
-ghost use Prim.Native.Nat.{ℕ};
-ghost use lib.ListN.{length};
-ghost use Rattle.geometry.specs.Parts.{wordCount};
 ghost use Rattle.plain.specs.Lent.{Lent, lent};
 ghost use Rattle.plain.specs.Machine.{Fit, readEvent, writeEvent, waitEvent, cutEvent};
 use geometry::Part;

@@ -1,9 +1,9 @@
 use mathlib.Core.Path.{_∙_}
 use borrow.Author.Needs.{needs}
 use Rattle.plain.proofs.EventLaws.{write-address, write-passes}
-use Rattle.machine.proofs.Laws.{answers}
-use Rattle.machine.proofs.admitted.write.Statement.{statement}
-use Rattle.machine.proofs.admitted.write.Tie as tie
+use Rattle.admitted.proofs.Laws.{answers}
+use Rattle.admitted.proofs.write.Statement.{statement}
+use Rattle.admitted.proofs.write.Tie as tie
 
 pub write-spec : {M : Type 1} → statement M
 write-spec =

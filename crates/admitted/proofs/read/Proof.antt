@@ -2,9 +2,9 @@ use mathlib.Core.Path.{sym, _∙_}
 use native.Mathlib.Omega.{arith}
 use borrow.Author.Needs.{needs}
 use Rattle.plain.proofs.EventLaws.{read-address, read-passes}
-use Rattle.machine.proofs.Laws.{answers}
-use Rattle.machine.proofs.admitted.read.Statement.{statement}
-use Rattle.machine.proofs.admitted.read.Tie as tie
+use Rattle.admitted.proofs.Laws.{answers}
+use Rattle.admitted.proofs.read.Statement.{statement}
+use Rattle.admitted.proofs.read.Tie as tie
 
 pub read-spec : {M : Type 1} → statement M
 read-spec =
