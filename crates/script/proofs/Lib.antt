@@ -1,13 +1,1 @@
-pub mod Grown
-pub mod Put
 pub mod Within
-pub mod Cases
-pub mod NumberBytes
-pub mod ItemBytes
-pub mod ItemWords
-pub mod Letters
-pub mod Kept
-pub mod LineItems
-pub mod LineWords
-pub mod LineVerbs
-pub mod LineBytes

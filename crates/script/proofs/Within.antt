@@ -5,12 +5,11 @@ use mathlib.Core.Path.{_≡_, refl}
 use native.Mathlib.Omega.{arith}
 use lib.Dec.{leb, ltb}
 use borrow.Author.Tests.{leb-true, ltb-false}
-use Rattle.script.specs.declared.forms.Order.{Order}
-use Rattle.script.specs.declared.forms.Form.{Form}
-use Rattle.script.specs.Choice.{if_then_else_}
-use Rattle.script.specs.declared.Line.{Line}
-use Rattle.script.specs.Lines.{endedOrder}
-use Rattle.script.specs.Forms.{Within, orderOf, cutOf, cellOf}
+use Rattle.language.specs.declared.Order.{Order}
+use Rattle.forms.specs.declared.Form.{Form}
+use Rattle.language.specs.Choice.{if_then_else_}
+use Rattle.script.specs.Orders.{orderOf, cutOf, cellOf}
+use Rattle.language.specs.Orders.{Within}
 
 cut-within : (count room : ℕ) → Within (cutOf count room) room
 unfolding cutOf
@@ -42,7 +41,3 @@ order-within (Form.Cuts count) room = cut-within count room
 order-within (Form.Sets address count) room = cell-within address count room
 order-within Form.Freshens room = tt
 order-within Form.Wrong room = tt
-
-pub ended-within : (l : Line) (room : ℕ) → Within (endedOrder l room) room
-unfolding endedOrder
-ended-within l room = order-within _ room

@@ -1,8 +1,2 @@
-pub mod Choice
-pub mod Numbers
-pub mod Items
-pub mod Forms
+pub mod Orders
 pub mod Lines
-pub mod Language
-pub mod Reading
-pub mod Worked

@@ -3,13 +3,14 @@ use Prim.Native.Nat.{ℕ}
 use mathlib.Core.Bool.{Bool, true, false, _||_}
 use mathlib.Core.List.{List}
 use lib.Dec.{eqb}
-use Rattle.script.specs.Choice.{if_then_else_}
-use Rattle.script.specs.declared.items.Item.{Item}
-use Rattle.script.specs.declared.forms.Order.{Order}
-use Rattle.script.specs.declared.forms.Form.{Form}
+use Rattle.language.specs.Choice.{if_then_else_}
+use Rattle.spelling.specs.declared.Item.{Item}
+use Rattle.language.specs.declared.Order.{Order}
+use Rattle.forms.specs.declared.Form.{Form}
 use Rattle.script.specs.declared.Line.{Line}
-use Rattle.script.specs.Items.{noItem, nextItem}
-use Rattle.script.specs.Forms.{takenForm, takenWords, orderOf}
+use Rattle.spelling.specs.Items.{noItem, nextItem}
+use Rattle.forms.specs.Forms.{takenForm, takenWords}
+use Rattle.script.specs.Orders.{orderOf}
 
 abbrev pub line : Form → Item → (held : Bool) → Line
 line form i held = record { form = form; item = i; held = held }

@@ -2,17 +2,14 @@
 // caller lends. It knows nothing of the device.
 ghost use mathlib.Core.Path.{_≡_};
 ghost use lib.ListN.{length};
-ghost use Rattle.script.specs.Forms.{Within};
+ghost use Rattle.language.specs.Orders.{Within};
 ghost use Rattle.script.specs.Lines.{noLine, fedLine, fedWords, endedOrder, endedWords, readOn, readWords, separatesItems};
 
-mod forms;
-mod items;
-mod numbers;
-mod words;
+mod orders;
 
 use forms::Form;
-pub use forms::Order;
-use items::Item;
+pub use language::Order;
+use spelling::Item;
 
 // A line as far as it is read.
 pub struct Line {
@@ -28,7 +25,7 @@ pub fn begin() -> Line
 {
     Line {
         form: Form::Empty,
-        item: items::nothing(),
+        item: spelling::nothing(),
         held: false,
     }
 }
@@ -41,7 +38,7 @@ pub fn fed(line: Line, byte: u8, words: &mut [u16]) -> Line
     let form = line.form;
     let item = line.item;
     if line.held {
-        return read(form, items::next(item, b'\r'), byte, words);
+        return read(form, spelling::next(item, b'\r'), byte, words);
     }
     read(form, item, byte, words)
 }
@@ -55,7 +52,7 @@ pub fn ended(line: Line, words: &mut [u16]) -> Order
     let form = line.form;
     let item = line.item;
     let whole = forms::taken(form, item, words);
-    forms::order_of(whole, words.len())
+    orders::order_of(whole, words.len())
 }
 
 fn read(form: Form, item: Item, byte: u8, words: &mut [u16]) -> Line
@@ -72,13 +69,13 @@ fn read(form: Form, item: Item, byte: u8, words: &mut [u16]) -> Line
     if separates(byte) {
         return Line {
             form: forms::taken(form, item, words),
-            item: items::nothing(),
+            item: spelling::nothing(),
             held: false,
         };
     }
     Line {
         form: form,
-        item: items::next(item, byte),
+        item: spelling::next(item, byte),
         held: false,
     }
 }

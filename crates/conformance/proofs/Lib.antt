@@ -1,0 +1,10 @@
+pub mod Cases
+pub mod NumberBytes
+pub mod ItemBytes
+pub mod ItemWords
+pub mod Letters
+pub mod Kept
+pub mod LineItems
+pub mod LineWords
+pub mod LineVerbs
+pub mod LineBytes

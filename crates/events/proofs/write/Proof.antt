@@ -1,0 +1,10 @@
+use Rattle.events.proofs.write.Statement.{statement}
+use Rattle.events.proofs.write.Tie as tie
+
+pub write-spec : {M : Type 1} → statement M
+write-spec =
+    tie.close
+    (tie.spec
+    (λ c κs. tt)  -- write-requires
+    (λ c κs. tt)  -- answered-requires
+    (λ c. rw (c .answered .ensures, c .before .write .ensures)))  -- returns

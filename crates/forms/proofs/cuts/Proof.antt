@@ -1,0 +1,14 @@
+use Rattle.forms.specs.Forms.{cutsBy}
+use borrow.Author.Needs.{needs}
+use Rattle.forms.proofs.cuts.Statement.{statement}
+use Rattle.forms.proofs.cuts.Tie as tie
+
+pub cuts-spec : {M : Type 1} → statement M
+unfolding cutsBy
+cuts-spec =
+    tie.close
+    (tie.spec
+    (λ c. search needs)  -- enum-told
+    (λ c. search needs)  -- enum-known-count
+    (λ c. rw (c .enum-told .given .1))  -- returns
+    (λ c. rw (c .before .count .given .1)))  -- returns-2

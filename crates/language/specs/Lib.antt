@@ -1,0 +1,4 @@
+pub mod Choice
+pub mod Language
+pub mod Orders
+pub mod Worked
