@@ -1,5 +1,4 @@
--- The history of a run, told from its events and their answers alone: nothing here names a record, a soundness or the cells.
--- It counts up the time in which an operation made progress, and yields what has come to pass, in order.
+-- The history of a run, told from its events and their answers alone: no record, no soundness and no cells are named here.
 use Prim.Native.Nat.{ℕ, zero, suc, _+_, _-_, _%_, min}
 use mathlib.Core.Bool.{Bool, true, false}
 use mathlib.Core.List.{List, [], _∷_}
@@ -58,8 +57,7 @@ pub record Told : Type 0 where
 abbrev pub telling : Command → Doing → Blocks → Blocks → List Fact → ℕ → ℕ → Told
 telling c d y q f t e = record { command = c; doing = d; dyb = y; ppb = q; facts = f; clock = t; charge = e }
 
--- ---- what an answer says: taken; it continued no command; it was turned down; it was as if it had not been
-
+-- what an answer says: taken; it continued no command; it was turned down; it was as if it had not been
 pub data Kind : Type 0 where
   taken lost dropped unheard : Kind
 
