@@ -1,11 +1,10 @@
 -- How much debris a cut can need, and what is left of it for the program.
 use Prim.Native.Nat.{ℕ, _+_, _^_, _<_, _≤_}
-use mathlib.Core.Path.{_≡_, _∙_}
+use mathlib.Core.Path.{_≡_}
 use mathlib.Core.List.{List}
 use native.Mathlib.Omega.{arith}
 use lib.ListN.{length, drop, length-drop}
 use Rattle.geometry.specs.declared.Part.{Part}
-use Rattle.geometry.specs.Parts.{wordCount}
 use Rattle.geometry.proofs.Laid.{block-fits, words-le}
 use Rattle.plain.specs.declared.Operation.{Operation}
 use Rattle.plain.specs.declared.Place.{Place}
@@ -14,8 +13,8 @@ use Rattle.plain.specs.declared.BegunProgram.{BegunProgram}
 use Rattle.plain.specs.declared.BegunProgram.the-variants.{NoProgram, Writes}
 use Rattle.plain.specs.Lent.{lent}
 use Rattle.plain.specs.Programs.{debrisWords}
-use Rattle.plain.specs.Cut.{begunBlock, begunProgram, blockDebris, programDebris, debrisNeeded, blockCut}
-use Rattle.plain.proofs.CutCells.{block-enough, block-size}
+use Rattle.plain.specs.Cut.{begunBlock, begunProgram, blockDebris, programDebris, debrisNeeded}
+use Rattle.plain.proofs.CutCells.{block-enough}
 use Rattle.cutting.specs.Cuttable.{Cuttable}
 
 -- their sum fits: a block has no more words than the part
@@ -27,17 +26,10 @@ debris-fits p (At b) NoProgram = omega (arith, block-fits p b, words-le p)
 debris-fits p (At b) (Writes d) = omega (arith, block-fits p b, words-le p)
 
 -- "A begun erase needs as many debris words as the block in hand has; a begun program needs one, after those."
-module _ {p : Part} {o : Operation} {cells debris : List ℕ} (cut : Cuttable p o cells debris) where
-  pub block-within : (block : Place) → block ≡ begunBlock p o → blockDebris p block ≤ length debris
-  block-within block e = rw e (block-enough p o debris (lent cells) (cut .whole) (cut .enough))
+module _ {p : Part} {o : Operation} {cells debris : List ℕ} (cut : Cuttable p o cells debris) {block : Place} (hand : block ≡ begunBlock p o) where
+  pub block-within : blockDebris p block ≤ length debris
+  block-within = rw hand (block-enough p o debris (lent cells) (cut .whole) (cut .enough))
 
-  pub next-within : (block : Place) (next : ℕ) → next ≡ blockDebris p block → block ≡ begunBlock p o → next ≤ length debris
-  next-within block next e f = rw e (block-within block f)
-
-  pub own-within : programDebris (begunProgram p o) ≤ length (drop (blockDebris p (begunBlock p o)) debris)
+  pub program-within : (next : ℕ) → next ≤ blockDebris p block → programDebris (begunProgram p o) ≤ length (drop next debris)
   unfolding debrisNeeded
-  own-within = rw (length-drop (blockDebris p (begunBlock p o)) debris) (omega (arith, cut .enough))
-
-  -- the block's debris leaves as many cells
-  pub still-whole : length (blockCut p (begunBlock p o) debris (lent cells) .cells) ≡ wordCount p
-  still-whole = block-size p o debris (lent cells) (cut .whole) (cut .enough) ∙ cut .whole
+  program-within next h = rw (length-drop next debris) (omega (arith, cut .enough, rw hand at h))

@@ -3,7 +3,7 @@ ghost use mathlib.Core.Path.{_≡_};
 ghost use Prim.Native.Nat.{_<_};
 ghost use lib.ListN.{length};
 ghost use Rattle.plain.specs.Lent.{lent};
-ghost use Rattle.plain.specs.Status.{seen, look};
+ghost use Rattle.plain.specs.Status.{look};
 use geometry::Part;
 use plain::Command;
 use plain::Operation;
@@ -28,27 +28,26 @@ pub fn look(
 {
     if status::polls(part, operations::running_of(operation), address) {
         let after = status::polled(part, operation, address);
-        return seen(status::status_of(operations::running_of(after)), after);
+        return Seen {
+            word: status::status_of(operations::running_of(after)),
+            operation: after,
+        };
     }
     if readings::reading_on(part, command, address) {
-        return seen(
-            readings::reading_word(part, bits, command, address),
-            operation,
-        );
+        return Seen {
+            word: readings::reading_word(part, bits, command, address),
+            operation: operation,
+        };
     }
     if resting::rests(part, operations::suspension_of(operation), address) {
         let after = resting::rested(operation);
-        return seen(resting::rest_word(operations::suspension_of(after)), after);
+        return Seen {
+            word: resting::rest_word(operations::suspension_of(after)),
+            operation: after,
+        };
     }
-    seen(cells[address], operation)
-}
-
-// The answer of a read.
-fn seen(word: u16, operation: Operation) -> Seen
-    ensures { λ r. ⌜ r ≡ seen word operation ⌝ }
-{
     Seen {
-        word: word,
+        word: cells[address],
         operation: operation,
     }
 }

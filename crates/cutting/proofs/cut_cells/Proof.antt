@@ -1,30 +1,29 @@
 use native.Mathlib.Omega.{arith}
 use borrow.Rule.Slice.PartAt.{part-to-end}
 use borrow.Author.Needs.{needs}
-use Rattle.plain.specs.Cut.{cutLent}
-use Rattle.cutting.proofs.Laws.{block-within, next-within, own-within, still-whole}
+use Rattle.plain.specs.Cut.{blockDebris, cutLent}
+use Rattle.cutting.proofs.Laws.{block-within, program-within}
 use Rattle.cutting.proofs.cut_cells.Statement.{statement}
 use Rattle.cutting.proofs.cut_cells.Tie as tie
 
 pub cut-cells-spec : {M : Type 1} → statement M
-unfolding cutLent
+unfolding blockDebris cutLent
 cut-cells-spec =
     tie.close
     (tie.spec
     (λ c κs. tt)  -- begun-block-requires
     (λ c κs. tt)  -- begun-program-requires
-    (λ c κs. (c .before .before .before .before .before .pre .whole, block-within (c .before .before .before .before .before .pre) _ (c .before .before .begun-block .ensures)))  -- cut-block-requires
+    (λ c κs. (c .before .before .before .before .before .pre .whole, omega (arith, block-within (c .before .before .before .before .before .pre) (c .before .before .begun-block .ensures))))  -- cut-block-requires
     (λ c κs. tt)  -- block-debris-requires
-    (λ c. omega (arith, next-within (c .before .before .before .before .before .before .before .before .before .before .pre) _ _ (c .before .block-debris .ensures) (c .before .before .before .before .before .before .before .begun-block .ensures)))  -- mul-cut-program
-    (λ c. next-within (c .before .before .before .before .before .before .before .before .before .before .pre) _ _ (c .before .block-debris .ensures) (c .before .before .before .before .before .before .before .begun-block .ensures))  -- sub-cut-program
-    (λ c. next-within (c .before .before .before .before .before .before .before .before .before .before .pre) _ _ (c .before .block-debris .ensures) (c .before .before .before .before .before .before .before .begun-block .ensures))  -- part-cut-program-start
+    (λ c. omega (arith, c .before .block-debris .ensures, block-within (c .before .before .before .before .before .before .before .before .before .before .pre) (c .before .before .before .before .before .before .before .begun-block .ensures)))  -- mul-cut-program
+    (λ c. omega (arith, c .before .block-debris .ensures, block-within (c .before .before .before .before .before .before .before .before .before .before .pre) (c .before .before .before .before .before .before .before .begun-block .ensures)))  -- sub-cut-program
+    (λ c. omega (arith, c .before .block-debris .ensures, block-within (c .before .before .before .before .before .before .before .before .before .before .pre) (c .before .before .before .before .before .before .before .begun-block .ensures)))  -- part-cut-program-start
     (λ c. search needs)  -- part-cut-program-end
     (λ c κs.
     let start = c .before .before .before .before .before .before .before .before .before .before .before in
-    let block = c .before .before .before .before .before .before .before .before .begun-block .ensures in
-    let program = c .before .before .before .before .before .before .before .begun-program .ensures in (
-      (rw (c .before .before .before .before .before .cut-block .ensures, block) (still-whole (start .pre)), rw program (start .pre .inside)),
-      rw (part-to-end (start .args .debris .now) (c .before .before .block-debris .result), program, c .before .before .block-debris .ensures, block) (own-within (start .pre)),
-    ))  -- cut-program-requires
+    let program = c .before .before .before .before .before .before .before .begun-program .ensures in
+    let next = c .before .before .block-debris .result in
+    let enough = program-within (start .pre) (c .before .before .before .before .before .before .before .before .begun-block .ensures) next (omega (arith, c .before .before .block-debris .ensures)) in
+    ((omega (arith, start .pre .whole), rw program (start .pre .inside)), rw (part-to-end (start .args .debris .now) next, program) enough))  -- cut-program-requires
     (λ c. search needs)  -- same-length
     (λ c. rw (c .before .before .cut-program .ensures, part-to-end (c .before .before .before .before .before .before .before .before .before .before .before .before .before .before .args .debris .now) (c .before .before .before .before .before .block-debris .result), c .before .before .before .before .before .block-debris .ensures, c .before .before .before .before .before .before .before .before .cut-block .ensures, c .before .before .before .before .before .before .before .before .before .before .begun-program .ensures, c .before .before .before .before .before .before .before .before .before .before .before .begun-block .ensures)))  -- returns

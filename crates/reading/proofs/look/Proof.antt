@@ -13,20 +13,16 @@ look-spec =
     (λ c κs. tt)  -- polled-requires
     (λ c κs. tt)  -- running-of-requires-2
     (λ c κs. tt)  -- status-of-requires
-    (λ c κs. tt)  -- seen-requires
-    (λ c. rw (c .seen .ensures, c .before .status-of .ensures, c .before .before .running-of2 .ensures, c .before .before .before .polled .ensures, ← c .before .before .before .before .before .before .running-of .ensures, ← c .before .before .before .before .before .polls .ensures, c .before .before .before .before .if1 .taken))  -- returns
+    (λ c. rw (c .status-of .ensures, c .before .running-of2 .ensures, c .before .before .polled .ensures, ← c .before .before .before .before .before .running-of .ensures, ← c .before .before .before .before .polls .ensures, c .before .before .before .if1 .taken))  -- returns
     (λ c κs. tt)  -- reading-on-requires
     (λ c κs. tt)  -- reading-word-requires
-    (λ c κs. tt)  -- seen-requires-2
-    (λ c. rw (c .seen2 .ensures, c .before .reading-word .ensures, ← c .before .before .before .before .before .before .running-of .ensures, ← c .before .before .before .before .before .polls .ensures, c .before .before .before .before .if1 .left, ← c .before .before .before .reading-on .ensures, c .before .before .if2 .taken))  -- returns-2
+    (λ c. rw (c .reading-word .ensures, ← c .before .before .before .before .before .running-of .ensures, ← c .before .before .before .before .polls .ensures, c .before .before .before .if1 .left, ← c .before .before .reading-on .ensures, c .before .if2 .taken))  -- returns-2
     (λ c κs. tt)  -- suspension-of-requires
     (λ c κs. tt)  -- rests-requires
     (λ c κs. tt)  -- rested-requires
     (λ c κs. tt)  -- suspension-of-requires-2
     (λ c κs. tt)  -- rest-word-requires
-    (λ c κs. tt)  -- seen-requires-3
-    (λ c. rw (c .seen3 .ensures, c .before .rest-word .ensures, c .before .before .suspension-of2 .ensures, c .before .before .before .rested .ensures, ← c .before .before .before .before .before .before .before .before .before .before .before .running-of .ensures, ← c .before .before .before .before .before .before .before .before .before .before .polls .ensures, c .before .before .before .before .before .before .before .before .before .if1 .left, ← c .before .before .before .before .before .before .before .before .reading-on .ensures, c .before .before .before .before .before .before .before .if2 .left, ← c .before .before .before .before .before .before .suspension-of .ensures, ← c .before .before .before .before .before .rests .ensures, c .before .before .before .before .if3 .taken))  -- returns-3
-    (λ c. search needs)  -- mul-seen
-    (λ c. search needs)  -- shared-slice-read-seen
-    (λ c κs. tt)  -- seen-requires-4
-    (λ c. rw (c .seen4 .ensures, ← c .before .before .before .before .before .before .before .before .before .running-of .ensures, ← c .before .before .before .before .before .before .before .before .polls .ensures, c .before .before .before .before .before .before .before .if1 .left, ← c .before .before .before .before .before .before .reading-on .ensures, c .before .before .before .before .before .if2 .left, ← c .before .before .before .before .suspension-of .ensures, ← c .before .before .before .rests .ensures, c .before .before .if3 .left)))  -- returns-4
+    (λ c. rw (c .rest-word .ensures, c .before .suspension-of2 .ensures, c .before .before .rested .ensures, ← c .before .before .before .before .before .before .before .before .before .before .running-of .ensures, ← c .before .before .before .before .before .before .before .before .before .polls .ensures, c .before .before .before .before .before .before .before .before .if1 .left, ← c .before .before .before .before .before .before .before .reading-on .ensures, c .before .before .before .before .before .before .if2 .left, ← c .before .before .before .before .before .suspension-of .ensures, ← c .before .before .before .before .rests .ensures, c .before .before .before .if3 .taken))  -- returns-3
+    (λ c. search needs)  -- mul-t19
+    (λ c. search needs)  -- shared-slice-read-t21
+    (λ c. rw (← c .before .before .before .before .before .before .before .before .running-of .ensures, ← c .before .before .before .before .before .before .before .polls .ensures, c .before .before .before .before .before .before .if1 .left, ← c .before .before .before .before .before .reading-on .ensures, c .before .before .before .before .if2 .left, ← c .before .before .before .suspension-of .ensures, ← c .before .before .rests .ensures, c .before .if3 .left)))  -- returns-4
