@@ -37,11 +37,12 @@ pub fn done(word: u16, device: Device) -> Answer
 pub fn cut_device(meter: Meter, bits: Protection) -> Device
     ensures { λ r. ⌜ r ≡ cutOf meter bits ⌝ }
 {
+    let protection = bits.after_cut();
     Device {
         meter: meter,
         command: Command::Ground,
         operation: Operation::Idle,
-        bits: bits.after_cut(),
+        bits: protection,
     }
 }
 

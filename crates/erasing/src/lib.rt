@@ -114,10 +114,12 @@ fn erasing_of(chip: bool, e: Erase) -> Operation
 fn block_time(part: Part, chip: bool) -> u64
     ensures { λ r. ⌜ r ≡ blockTime part chip ⌝ }
 {
+    let chip_time = figures::chip_time(part);
+    let erase_time = figures::erase_time(part);
     if chip {
-        return figures::chip_time(part);
+        return chip_time;
     }
-    figures::erase_time(part)
+    erase_time
 }
 
 fn with_left(e: Erase, left: u64) -> Erase

@@ -20,7 +20,8 @@ pub fn stood_by(part: Part, meter: Meter, n: u64) -> Meter
     requires { ⌜ Room part meter n ⌝ }
     ensures { λ r. ⌜ r ≡ metered meter n (n * standbyCurrent part) ⌝ }
 {
-    meter::advanced(meter, n, n * figures::standby_current(part))
+    let standby = figures::standby_current(part);
+    meter::advanced(meter, n, n * standby)
 }
 
 // "Running programs and erases draw 17,000 pC per µs".
@@ -28,5 +29,6 @@ pub fn ran(part: Part, meter: Meter, n: u64) -> Meter
     requires { ⌜ Room part meter n ⌝ }
     ensures { λ r. ⌜ r ≡ metered meter n (n * runningCurrent part) ⌝ }
 {
-    meter::advanced(meter, n, n * figures::running_current(part))
+    let running = figures::running_current(part);
+    meter::advanced(meter, n, n * running)
 }

@@ -7,6 +7,6 @@ block-time-spec =
     tie.close
     (tie.spec
     (λ c κs. search needs)  -- chip-time-requires
-    (λ c. rw (c .chip-time .ensures, c .before .if1 .taken))  -- returns
     (λ c κs. search needs)  -- erase-time-requires
-    (λ c. rw (c .erase-time .ensures, c .before .if1 .left)))  -- returns-2
+    (λ c. rw (c .before .before .chip-time .ensures, c .if1 .taken))  -- returns
+    (λ c. rw (c .before .erase-time .ensures, c .if1 .left)))  -- returns-2

@@ -9,6 +9,6 @@ ran-spec =
     tie.close
     (tie.spec
     (λ c κs. search needs)  -- running-current-requires
-    (λ c. rw (c .running-current .ensures) (omega (arith, ran-fits _ _ _ (c .before .pre) .1)))  -- mul-advanced
-    (λ c κs. rw (c .running-current .ensures) (ran-fits _ _ _ (c .before .pre)))  -- advanced-requires
+    (λ c. omega (arith, rw (← c .running-current .ensures) at (ran-fits _ _ _ (c .before .pre)) .1))  -- mul-advanced
+    (λ c κs. rw (← c .running-current .ensures) at (ran-fits _ _ _ (c .before .pre)))  -- advanced-requires
     (λ c. rw (c .advanced .ensures, c .before .running-current .ensures)))  -- returns

@@ -9,6 +9,6 @@ stood-by-spec =
     tie.close
     (tie.spec
     (λ c κs. search needs)  -- standby-current-requires
-    (λ c. rw (c .standby-current .ensures) (omega (arith, stood-by-fits _ _ _ (c .before .pre) .1)))  -- mul-advanced
-    (λ c κs. rw (c .standby-current .ensures) (stood-by-fits _ _ _ (c .before .pre)))  -- advanced-requires
+    (λ c. omega (arith, rw (← c .standby-current .ensures) at (stood-by-fits _ _ _ (c .before .pre)) .1))  -- mul-advanced
+    (λ c κs. rw (← c .standby-current .ensures) at (stood-by-fits _ _ _ (c .before .pre)))  -- advanced-requires
     (λ c. rw (c .advanced .ensures, c .before .standby-current .ensures)))  -- returns
