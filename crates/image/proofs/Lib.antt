@@ -1,5 +1,2 @@
-pub mod Words
-pub mod Canonical
-pub mod Round
-pub mod Stored
-pub mod Rest
+pub mod Tested
+pub mod Unused

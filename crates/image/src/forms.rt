@@ -1,100 +1,80 @@
-// Which words stand for a record: the layout's number, each number below its limit, and 0 in every word that is not in use.
+// Which words of a command and of an operation stand for one: a number that there is, and 0 in each word that is not in use.
 ghost use mathlib.Core.Path.{_≡_};
 ghost use lib.ListN.{length};
-ghost use Rattle.image.specs.Image.{recordWords, wellFormed, atRest, commandFits, eraseFits, programs, programFits};
+ghost use Rattle.layout.specs.Places.{recordWords};
+ghost use Rattle.layout.specs.Commands.{beside, commandFits};
+ghost use Rattle.layout.specs.Operations.{programs};
+ghost use Rattle.layout.specs.Image.{eraseFits, programFits, operationFits};
+use crate::sets;
+use layout::ADDRESS_AT;
+use layout::DATA_AT;
+use layout::DYB_AT;
+use layout::LIST_AT;
+use layout::OPERATION_AT;
+use layout::TOGGLE_AT;
+use layout::TOGGLES_AT;
 
-pub fn fit(words: &[u64]) -> bool
-    requires { ⌜ length (now words) ≡ recordWords ⌝ }
-    ensures { λ r. ⌜ r ≡ wellFormed (now (words .entry)) ⌝ }
+// Is there a command of that number, and does it have a place if one is told?
+pub fn command_fits(number: u64, place: u64) -> bool
+    ensures { λ r. ⌜ r ≡ commandFits (beside number place) ⌝ }
 {
-    if words[0] != 1 {
+    if 13 <= number {
         return false;
     }
-    if !command_fits(words[3], words[4]) {
-        return false;
+    if number == 9 {
+        return true;
     }
-    if 8 <= words[5] {
+    if number == 11 {
+        return true;
+    }
+    place == 0
+}
+
+pub fn operation_fits(words: &[u64]) -> bool
+    requires { ⌜ length (now words) ≡ recordWords ⌝ }
+    ensures { λ r. ⌜ r ≡ operationFits (now (words .entry)) ⌝ }
+{
+    if 8 <= words[OPERATION_AT] {
         return false;
     }
     if !erase_fits(words) {
         return false;
     }
-    if !program_fits(words) {
-        return false;
-    }
-    words[28] < 2
-}
-
-pub fn rest(words: &[u64]) -> bool
-    requires { ⌜ length (now words) ≡ recordWords ⌝ }
-    ensures { λ r. ⌜ r ≡ atRest (now (words .entry)) ⌝ }
-{
-    if words[0] != 1 {
-        return false;
-    }
-    let command = words[3] | words[4] | words[5];
-    let erase = command
-        | words[6]
-        | words[7]
-        | words[8]
-        | words[9]
-        | words[10]
-        | words[11]
-        | words[12]
-        | words[13];
-    if erase | words[14] | words[15] | words[16] | words[17] != 0 {
-        return false;
-    }
-    words[28] < 2
-}
-
-fn command_fits(number: u64, place: u64) -> bool
-    ensures { λ r. ⌜ r ≡ commandFits number place ⌝ }
-{
-    if 13 <= number {
-        return false;
-    }
-    if place == 0 {
-        return true;
-    }
-    if number == 9 {
-        return true;
-    }
-    number == 11
+    program_fits(words)
 }
 
 fn erase_fits(words: &[u64]) -> bool
     requires { ⌜ length (now words) ≡ recordWords ⌝ }
     ensures { λ r. ⌜ r ≡ eraseFits (now (words .entry)) ⌝ }
 {
-    if 3 <= words[5] {
-        return words[13] < 4;
+    if 3 <= words[OPERATION_AT] {
+        return words[TOGGLES_AT] < 4;
     }
-    (words[6] | words[7] | words[8] | words[9] | words[10] | words[11] | words[12] | words[13]) == 0
+    sets::are_unused(words, LIST_AT, ADDRESS_AT)
 }
 
 fn program_fits(words: &[u64]) -> bool
     requires { ⌜ length (now words) ≡ recordWords ⌝ }
     ensures { λ r. ⌜ r ≡ programFits (now (words .entry)) ⌝ }
 {
-    if !programs(words[5]) {
-        return (words[14] | words[15] | words[16] | words[17]) == 0;
+    if !programs(words[OPERATION_AT]) {
+        return sets::are_unused(words, ADDRESS_AT, DYB_AT);
     }
-    if 65536 <= words[15] {
+    if 65536 <= words[DATA_AT] {
         return false;
     }
-    words[17] < 2
+    words[TOGGLE_AT] < 2
 }
 
-// Does the operation of this number hold a program?
-fn programs(operation: u64) -> bool
-    ensures { λ r. ⌜ r ≡ programs operation ⌝ }
+// Does the operation of this number have a program?
+fn programs(number: u64) -> bool
+    ensures { λ r. ⌜ r ≡ programs number ⌝ }
 {
-    if operation == 1 {
+    if number == 1 {
         return true;
     }
-    if operation == 2 {
+    if number == 2 {
         return true;
     }
-    operation == 6
+    number == 6
 }

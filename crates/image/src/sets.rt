@@ -1,55 +1,33 @@
-// Five words for a set of blocks, at each of their three places; and a bit.
+// Words from a place on: five for a set of blocks; and those that are not in use.
 ghost use mathlib.Core.Path.{_≡_};
-ghost use Prim.Native.Nat.{_≤_};
+ghost use Prim.Native.Nat.{_+_, _≤_};
 ghost use lib.ListN.{length};
-ghost use Rattle.image.specs.Image.{recordWords, flag, blocksAt};
+ghost use Rattle.layout.specs.Image.{blocksAt, unused};
 use blocks::Blocks;
 
-pub fn flag(bit: bool) -> u64
-    ensures { λ r. ⌜ r ≡ flag bit ⌝ }
-    ensures { λ r. ⌜ r ≤ 1 ⌝ }
-{
-    if bit {
-        return 1;
-    }
-    0
-}
-
-pub fn list_of(words: &[u64]) -> Blocks
-    requires { ⌜ length (now words) ≡ recordWords ⌝ }
-    ensures { λ r. ⌜ r ≡ blocksAt (now (words .entry)) 6 ⌝ }
+pub fn blocks_at(words: &[u64], from: usize) -> Blocks
+    requires { ⌜ from + 5 ≤ length (now words) ⌝ }
+    ensures { λ r. ⌜ r ≡ blocksAt (now (words .entry)) from ⌝ }
 {
     Blocks {
-        w0: words[6],
-        w1: words[7],
-        w2: words[8],
-        w3: words[9],
-        w4: words[10],
+        w0: words[from],
+        w1: words[from + 1],
+        w2: words[from + 2],
+        w3: words[from + 3],
+        w4: words[from + 4],
     }
 }
 
-pub fn dyb_of(words: &[u64]) -> Blocks
-    requires { ⌜ length (now words) ≡ recordWords ⌝ }
-    ensures { λ r. ⌜ r ≡ blocksAt (now (words .entry)) 18 ⌝ }
+// Are the words up to another place all 0? Their OR is asked, once.
+pub fn are_unused(words: &[u64], from: usize, end: usize) -> bool
+    requires { ⌜ (from ≤ end) × (end ≤ length (now words)) ⌝ }
+    ensures { λ r. ⌜ r ≡ unused (now (words .entry)) from end ⌝ }
 {
-    Blocks {
-        w0: words[18],
-        w1: words[19],
-        w2: words[20],
-        w3: words[21],
-        w4: words[22],
+    let mut joined: u64 = 0;
+    let mut i = from;
+    while i < end {
+        joined = joined | words[i];
+        i += 1;
     }
-}
-
-pub fn ppb_of(words: &[u64]) -> Blocks
-    requires { ⌜ length (now words) ≡ recordWords ⌝ }
-    ensures { λ r. ⌜ r ≡ blocksAt (now (words .entry)) 23 ⌝ }
-{
-    Blocks {
-        w0: words[23],
-        w1: words[24],
-        w2: words[25],
-        w3: words[26],
-        w4: words[27],
-    }
+    joined == 0
 }

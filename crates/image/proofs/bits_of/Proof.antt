@@ -6,7 +6,7 @@ pub bits-of-spec : {M : Type 1} → statement M
 bits-of-spec =
     tie.close
     (tie.spec
-    (λ c κs. search needs)  -- dyb-of-requires
-    (λ c κs. search needs)  -- ppb-of-requires
+    (λ c κs. search needs)  -- blocks-at-requires
+    (λ c κs. search needs)  -- blocks-at-requires-2
     (λ c. search needs)  -- shared-slice-read-t5
-    (λ c. rw (c .before .ppb-of .ensures, c .before .before .dyb-of .ensures)))  -- returns
+    (λ c. rw (c .before .blocks-at2 .ensures, c .before .before .blocks-at .ensures)))  -- returns

@@ -1,5 +1,5 @@
-use Rattle.image.specs.Image.{deviceOf}
 use borrow.Author.Needs.{needs}
+use Rattle.layout.specs.Image.{deviceOf}
 use Rattle.image.proofs.device_of.Statement.{statement}
 use Rattle.image.proofs.device_of.Tie as tie
 

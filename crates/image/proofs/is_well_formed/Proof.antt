@@ -1,6 +1,8 @@
-use borrow.Author.Tests.{ne-eqb}
-use Rattle.image.specs.Image.{wellFormed}
+use native.Mathlib.Omega.{arith}
 use borrow.Author.Needs.{needs}
+use Rattle.layout.specs.Image.{wellFormed}
+use Rattle.layout.proofs.Canonical.{is-marked}
+use Rattle.image.proofs.Tested.{holds, fails}
 use Rattle.image.proofs.is_well_formed.Statement.{statement}
 use Rattle.image.proofs.is_well_formed.Tie as tie
 
@@ -9,6 +11,11 @@ unfolding wellFormed
 is-well-formed-spec =
     tie.close
     (tie.spec
-    (λ c. rw (ne-eqb _ _ (c .if1 .taken)))  -- returns
-    (λ c κs. search needs)  -- fit-requires
-    (λ c. c .fit .ensures))  -- returns-2
+    (λ c κs. search needs)  -- is-marked-requires
+    (λ c. rw (fails (c .before .is-marked .ensures) (c .if1 .taken)))  -- returns
+    (λ c. omega (arith, is-marked _ (holds (c .before .before .is-marked .ensures) (c .before .if1 .left)) .long))  -- shared-slice-read-command-fits
+    (λ c. omega (arith, is-marked _ (holds (c .before .before .before .is-marked .ensures) (c .before .before .if1 .left)) .long))  -- shared-slice-read-command-fits-2
+    (λ c κs. search needs)  -- command-fits-requires
+    (λ c. rw (holds (c .before .before .before .before .before .is-marked .ensures) (c .before .before .before .before .if1 .left), fails (c .before .command-fits .ensures) (c .if2 .taken)))  -- returns-2
+    (λ c κs. is-marked _ (holds (c .before .before .before .before .before .is-marked .ensures) (c .before .before .before .before .if1 .left)) .long)  -- operation-fits-requires
+    (λ c. rw (holds (c .before .before .before .before .before .before .is-marked .ensures) (c .before .before .before .before .before .if1 .left), holds (c .before .before .command-fits .ensures) (c .before .if2 .left)) (c .operation-fits .ensures)))  -- returns-3

@@ -1,5 +1,5 @@
-use borrow.Author.Tests.{eq-eqb, le-ltb, lt-ltb, ne-eqb}
-use Rattle.image.specs.Image.{commandFits}
+use borrow.Author.Tests.{le-ltb, lt-ltb, ne-eqb}
+use Rattle.layout.specs.Commands.{commandFits}
 use Rattle.image.proofs.forms.command_fits.Statement.{statement}
 use Rattle.image.proofs.forms.command_fits.Tie as tie
 
@@ -9,6 +9,6 @@ command-fits-spec =
     tie.close
     (tie.spec
     (λ c. rw (le-ltb _ _ (c .if1 .taken)))  -- returns
-    (λ c. rw (lt-ltb _ _ (c .before .if1 .left), eq-eqb _ _ (c .if2 .taken)))  -- returns-2
-    (λ c. rw (lt-ltb _ _ (c .before .before .if1 .left), ne-eqb _ _ (c .before .if2 .left), eq-eqb _ _ (c .if3 .taken)))  -- returns-3
+    (λ c. rw (c .if2 .taken))  -- returns-2
+    (λ c. rw (c .if3 .taken))  -- returns-3
     (λ c. rw (lt-ltb _ _ (c .before .before .if1 .left), ne-eqb _ _ (c .before .if2 .left), ne-eqb _ _ (c .if3 .left))))  -- returns-4

@@ -1,7 +1,6 @@
 use borrow.Author.Tests.{le-leb, lt-leb}
-use Rattle.image.specs.Image.{eraseFits}
-use Rattle.image.proofs.Words.{joined-zeros}
 use borrow.Author.Needs.{needs}
+use Rattle.layout.specs.Image.{eraseFits}
 use Rattle.image.proofs.forms.erase_fits.Statement.{statement}
 use Rattle.image.proofs.forms.erase_fits.Tie as tie
 
@@ -13,12 +12,5 @@ erase-fits-spec =
     (λ c. search needs)  -- shared-slice-read-if1
     (λ c. search needs)  -- shared-slice-read-result
     (λ c. rw (le-leb _ _ (c .before .if1 .taken)))  -- returns
-    (λ c. search needs)  -- shared-slice-read-result-2
-    (λ c. search needs)  -- shared-slice-read-result-3
-    (λ c. search needs)  -- shared-slice-read-result-4
-    (λ c. search needs)  -- shared-slice-read-result-5
-    (λ c. search needs)  -- shared-slice-read-result-6
-    (λ c. search needs)  -- shared-slice-read-result-7
-    (λ c. search needs)  -- shared-slice-read-result-8
-    (λ c. search needs)  -- shared-slice-read-result-9
-    (λ c. rw (lt-leb _ _ (c .before .before .before .before .before .before .before .before .if1 .left)) (joined-zeros _ _)))  -- returns-2
+    (λ c κs. search needs)  -- are-unused-requires
+    (λ c. rw (lt-leb _ _ (c .before .if1 .left)) (c .are-unused .ensures)))  -- returns-2

@@ -1,0 +1,97 @@
+// What C asks of a record besides its four events, and of the blocks of a part.
+ghost use mathlib.Core.Path.{_≡_};
+ghost use Rattle.face.specs.Face.{standsSound, placeNumber, faceClock, faceCharge, faceFirstWord, faceBlockWords};
+ghost use Rattle.asked.specs.Asked.{faceExposedBlock, faceExposedWord, faceReadsCells};
+use plain::Place;
+
+// No block, no word, no clock, no charge.
+const NONE: u64 = 0xffffffffffffffff;
+
+pub fn is_sound(part: u64, words: &[u64]) -> bool
+    ensures { λ r. ⌜ r ≡ standsSound part (now (words .entry)) ⌝ }
+{
+    if !calls::stands(part, words) {
+        return false;
+    }
+    machine::is_sound(calls::part_named(part), image::device_of(words))
+}
+
+fn place_number(place: Place) -> u64
+    ensures { λ r. ⌜ r ≡ placeNumber place ⌝ }
+{
+    match place {
+        Place::Nowhere => NONE,
+        Place::At(n) => n as u64,
+    }
+}
+
+pub fn exposed_block(part: u64, words: &[u64]) -> u64
+    ensures { λ r. ⌜ r ≡ faceExposedBlock part (now (words .entry)) ⌝ }
+{
+    if !calls::stands(part, words) {
+        return NONE;
+    }
+    let exposed = machine::exposed(calls::part_named(part), image::device_of(words));
+    let block = exposed.block;
+    place_number(block)
+}
+
+pub fn exposed_word(part: u64, words: &[u64]) -> u64
+    ensures { λ r. ⌜ r ≡ faceExposedWord part (now (words .entry)) ⌝ }
+{
+    if !calls::stands(part, words) {
+        return NONE;
+    }
+    let exposed = machine::exposed(calls::part_named(part), image::device_of(words));
+    let word = exposed.word;
+    place_number(word)
+}
+
+pub fn reads_cells(part: u64, words: &[u64], bank: usize) -> bool
+    ensures { λ r. ⌜ r ≡ faceReadsCells part (now (words .entry)) bank ⌝ }
+{
+    if !calls::stands(part, words) {
+        return false;
+    }
+    let named = calls::part_named(part);
+    if named.banks() <= bank {
+        return false;
+    }
+    machine::reads_cells(named, image::device_of(words), bank)
+}
+
+pub fn clock(part: u64, words: &[u64]) -> u64
+    ensures { λ r. ⌜ r ≡ faceClock part (now (words .entry)) ⌝ }
+{
+    if !is_sound(part, words) {
+        return NONE;
+    }
+    image::meter_of(words).clock
+}
+
+pub fn charge(part: u64, words: &[u64]) -> u64
+    ensures { λ r. ⌜ r ≡ faceCharge part (now (words .entry)) ⌝ }
+{
+    if !is_sound(part, words) {
+        return NONE;
+    }
+    image::meter_of(words).charge
+}
+
+pub fn first_word(part: u64, block: usize) -> usize
+    ensures { λ r. ⌜ r ≡ faceFirstWord part block ⌝ }
+{
+    if !calls::is_part(part) {
+        return 0;
+    }
+    calls::part_named(part).first_of(block)
+}
+
+pub fn block_words(part: u64, block: usize) -> usize
+    ensures { λ r. ⌜ r ≡ faceBlockWords part block ⌝ }
+{
+    if !calls::is_part(part) {
+        return 0;
+    }
+    calls::part_named(part).size_of(block)
+}

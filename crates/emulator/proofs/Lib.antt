@@ -1,3 +1,0 @@
-pub mod Faces
-pub mod Kept
-pub mod Resting

@@ -1,0 +1,125 @@
+-- What the face answers, once it is known whether the words stand for a record, and whether the event is admitted.
+use Prim.Native.Nat.{ℕ, _≤_}
+use mathlib.Core.Path.{_≡_, refl, sym, ap, _∙_}
+use mathlib.Core.Bool.{true, false}
+use mathlib.Core.List.{List}
+use native.Mathlib.Omega.{arith}
+use lib.Dec.{lit≤}
+use lib.ListN.{length}
+use Rattle.plain.specs.declared.Refusal.{Refusal}
+use Rattle.plain.specs.declared.Refusal.the-variants.{Done, State, Cells, Address, Clock, Debris, Busy, Sequence, Bank, Protected, Suspended, Locked, Inner}
+use Rattle.plain.specs.declared.Entry.the-variants.{Admitted, Barred}
+use Rattle.plain.specs.Lent.{lent}
+use Rattle.plain.specs.Refusals.{number}
+use Rattle.plain.specs.Machine.{Outcome, Fit, refused, entry, readEvent, writeEvent, waitEvent, cutEvent}
+use Rattle.plain.proofs.Tools.{by-cases, both-left, both-right}
+use Rattle.plain.proofs.Ladder.{admitted}
+use Rattle.plain.proofs.EventLaws as events
+use Rattle.layout.specs.Places.{recordWords}
+use Rattle.layout.specs.Image.{imageOf, wellFormed, deviceOf}
+use Rattle.layout.proofs.Canonical.{canonical, long}
+use Rattle.face.specs.Face.{Faced, isPart, partNamed, stands, standsSound, answered, shown, state, faceEntry, faceRead, faceWrite, faceWait, faceCut}
+
+pub number-small : (x : Refusal) → number x ≤ 12
+unfolding number
+number-small Done = lit≤ tt
+number-small State = lit≤ tt
+number-small Cells = lit≤ tt
+number-small Address = lit≤ tt
+number-small Clock = lit≤ tt
+number-small Debris = lit≤ tt
+number-small Busy = lit≤ tt
+number-small Sequence = lit≤ tt
+number-small Bank = lit≤ tt
+number-small Protected = lit≤ tt
+number-small Suspended = lit≤ tt
+number-small Locked = lit≤ tt
+number-small Inner = lit≤ tt
+
+-- an event that is admitted: the words stand for a record, it is sound, and the cells are whole
+pub record Enters (part : ℕ) (i cells : List ℕ) : Type 0 where
+  pub stands : stands part i ≡ true
+  pub fit : Fit (partNamed part) (deviceOf i) (lent cells)
+
+module _ (part : ℕ) (i : List ℕ) where
+  pub well : stands part i ≡ true → wellFormed i ≡ true
+  unfolding stands
+  well s = both-right (isPart part) (wellFormed i) s
+
+  pub whole : stands part i ≡ true → length i ≡ recordWords
+  whole s = long i (well s)
+
+  pub sound-whole : standsSound part i ≡ true → length i ≡ recordWords
+  unfolding standsSound
+  sound-whole s = whole (both-left (stands part i) _ s)
+
+  -- words that stand for a record are left as they were by an answer that leaves the record
+  pub kept : (n w : ℕ) (cells : List ℕ) → stands part i ≡ true → answered n w (imageOf (deviceOf i)) cells ≡ answered n w i cells
+  kept n w cells s = ap (λ (z : List ℕ). answered n w z cells) (canonical i (well s))
+
+  module _ (cells : List ℕ) where
+    pub entry-none : stands part i ≡ false → faceEntry part i cells ≡ Barred State
+    unfolding faceEntry
+    entry-none s = rw s
+
+    pub entry-some : stands part i ≡ true → faceEntry part i cells ≡ entry (partNamed part) (deviceOf i) (lent cells)
+    unfolding faceEntry
+    entry-some s = rw s
+
+    pub enters : faceEntry part i cells ≡ Admitted → Enters part i cells
+    enters e =
+        by-cases (stands part i)
+        (λ s. record { stands = s; fit = admitted (partNamed part) (deviceOf i) (lent cells) (sym (entry-some s) ∙ e) })
+        (λ s. let t : Barred State ≡ Admitted = sym (entry-none s) ∙ e in let z : _≡_ {A = ℕ} 0 1 = cc in absurd (omega arith))
+
+    -- what is barred is answered by the refusal, and nothing changes
+    barred : (n : Refusal) → (f : Faced) (o : Outcome) → faceEntry part i cells ≡ Barred n → (stands part i ≡ false → f ≡ state i cells) → (stands part i ≡ true → f ≡ shown o)
+        → (entry (partNamed part) (deviceOf i) (lent cells) ≡ Barred n → o ≡ refused n (deviceOf i) (lent cells)) → f ≡ answered (number n) 0 i cells
+    barred n f o e none some law =
+        by-cases (stands part i) (λ s. some s ∙ (ap shown (law (sym (entry-some s) ∙ e)) ∙ kept (number n) 0 cells s))
+        (λ s. let t : Barred State ≡ Barred n = sym (entry-none s) ∙ e in let same : State ≡ n = cc in none s ∙ ap (λ (x : Refusal). answered (number x) 0 i cells) same)
+
+    module _ (a : ℕ) where
+      pub read-none : stands part i ≡ false → faceRead part i cells a ≡ state i cells
+      unfolding faceRead
+      read-none s = rw s
+
+      pub read-some : stands part i ≡ true → faceRead part i cells a ≡ shown (readEvent (partNamed part) (deviceOf i) (lent cells) a)
+      unfolding faceRead
+      read-some s = rw s
+
+      pub read-barred : (n : Refusal) → faceEntry part i cells ≡ Barred n → faceRead part i cells a ≡ answered (number n) 0 i cells
+      read-barred n e = barred n _ _ e read-none read-some (events.read-barred (partNamed part) (deviceOf i) (lent cells) a n)
+
+      module _ (w : ℕ) where
+        pub write-none : stands part i ≡ false → faceWrite part i cells a w ≡ state i cells
+        unfolding faceWrite
+        write-none s = rw s
+
+        pub write-some : stands part i ≡ true → faceWrite part i cells a w ≡ shown (writeEvent (partNamed part) (deviceOf i) (lent cells) a w)
+        unfolding faceWrite
+        write-some s = rw s
+
+        pub write-barred : (n : Refusal) → faceEntry part i cells ≡ Barred n → faceWrite part i cells a w ≡ answered (number n) 0 i cells
+        write-barred n e = barred n _ _ e write-none write-some (events.write-barred (partNamed part) (deviceOf i) (lent cells) a w n)
+
+    module _ (n : ℕ) where
+      pub wait-none : stands part i ≡ false → faceWait part i cells n ≡ state i cells
+      unfolding faceWait
+      wait-none s = rw s
+
+      pub wait-some : stands part i ≡ true → faceWait part i cells n ≡ shown (waitEvent (partNamed part) (deviceOf i) (lent cells) n)
+      unfolding faceWait
+      wait-some s = rw s
+
+      pub wait-barred : (x : Refusal) → faceEntry part i cells ≡ Barred x → faceWait part i cells n ≡ answered (number x) 0 i cells
+      wait-barred x e = barred x _ _ e wait-none wait-some (events.wait-barred (partNamed part) (deviceOf i) (lent cells) n x)
+
+    module _ (debris : List ℕ) where
+      pub cut-none : stands part i ≡ false → faceCut part i cells debris ≡ state i cells
+      unfolding faceCut
+      cut-none s = rw s
+
+      pub cut-some : stands part i ≡ true → faceCut part i cells debris ≡ shown (cutEvent (partNamed part) (deviceOf i) (lent cells) debris)
+      unfolding faceCut
+      cut-some s = rw s

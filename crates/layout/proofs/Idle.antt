@@ -1,0 +1,53 @@
+-- Words of an idle device are well-formed, and say of it no more than its meter and its protection bits.
+use Prim.Native.Nat.{ℕ}
+use mathlib.Core.Path.{_≡_}
+use mathlib.Core.Bool.{true}
+use mathlib.Core.List.{List}
+use native.Mathlib.Omega.{arith}
+use lib.ListN.{length}
+use Rattle.meter.specs.declared.Meter.{Meter}
+use Rattle.protection.specs.declared.Protection.{Protection}
+use Rattle.plain.specs.declared.Operation.the-variants.{Idle}
+use Rattle.plain.specs.declared.Command.the-variants.{Ground}
+use Rattle.plain.specs.Record.{device}
+use Rattle.plain.proofs.Tools.{both, both-left, both-right}
+use Rattle.layout.specs.Places.{recordWords, commandAt, placeAt, operationAt, listAt, addressAt, dybAt}
+use Rattle.layout.specs.Commands.{commandWords, commandFits, commandOf}
+use Rattle.layout.specs.Operations.{operationParts, operationOf}
+use Rattle.layout.specs.Image.{imageOf, word, wordsFrom, zeros, unused, marked, eraseFits, programFits, operationFits, wellFormed, idleWords, meterOf, bitsOf, deviceOf}
+use Rattle.layout.proofs.Words.{unused-at, unused-part, flag-fits}
+use Rattle.layout.proofs.Canonical.{is-marked}
+
+module _ (i : List ℕ) (h : idleWords i ≡ true) where
+  mark : marked i ≡ true
+  unfolding idleWords
+  mark = both-left (marked i) _ h
+
+  none : unused i commandAt dybAt ≡ true
+  unfolding idleWords
+  none = both-right (marked i) _ h
+
+  pub idle-whole : length i ≡ recordWords
+  idle-whole = is-marked i mark .long
+
+  no-command : word i commandAt ≡ 0
+  no-command = unused-at i commandAt dybAt commandAt none (omega arith) (omega arith)
+
+  no-operation : word i operationAt ≡ 0
+  no-operation = unused-at i commandAt dybAt operationAt none (omega arith) (omega arith)
+
+  pub idle-well : wellFormed i ≡ true
+  unfolding wellFormed commandFits operationFits eraseFits programFits
+  idle-well =
+      rw (mark, no-command, unused-at i commandAt dybAt placeAt none (omega arith) (omega arith), no-operation)
+      (both _ _ (unused-part i commandAt dybAt listAt addressAt none (omega arith) (omega arith) (omega arith))
+      (unused-part i commandAt dybAt addressAt dybAt none (omega arith) (omega arith) (omega arith)))
+
+  pub idle-device : deviceOf i ≡ device (meterOf i) Ground Idle (bitsOf i)
+  unfolding deviceOf commandOf operationOf
+  idle-device = rw (no-command, no-operation)
+
+-- and the words of every idle device are such
+pub idle-image : (m : Meter) (b : Protection) → idleWords (imageOf (device m Ground Idle b)) ≡ true
+unfolding idleWords marked imageOf wordsFrom zeros commandWords operationParts
+idle-image m b = rw (flag-fits (b .lock))

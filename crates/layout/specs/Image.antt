@@ -1,0 +1,130 @@
+-- The record as words of 64 bits that a C program holds: what a record's words are, which words stand for a record, and for
+-- which (include/k5l2931cam.h tells them word by word).
+use Prim.Native.Nat.{ℕ, zero, suc, _+_, _*_, _-_, _/_, _%_}
+use mathlib.Core.Bool.{Bool, true, false, _&&_}
+use mathlib.Core.List.{List, [], _∷_, _++_}
+use lib.Dec.{eqb, ltb}
+use lib.ListN.{length, getD}
+use Rattle.blocks.specs.declared.Blocks.{Blocks}
+use Rattle.meter.specs.declared.Meter.{Meter}
+use Rattle.protection.specs.declared.Protection.{Protection}
+use Rattle.plain.specs.declared.Written.{Written}
+use Rattle.plain.specs.declared.Program.{Program}
+use Rattle.plain.specs.declared.Erase.{Erase}
+use Rattle.plain.specs.declared.Device.{Device}
+use Rattle.plain.specs.Choice.{if_then_else_}
+use Rattle.plain.specs.Programs.{writing}
+use Rattle.plain.specs.Record.{device, program, erase}
+use Rattle.layout.specs.declared.CommandWords.{CommandWords}
+use Rattle.layout.specs.declared.OperationParts.{OperationParts}
+use Rattle.layout.specs.Places.{layoutNumber, recordWords, layoutAt, clockAt, chargeAt, commandAt, placeAt, operationAt, listAt, handAt, eraseLeftAt, togglesAt, addressAt, dataAt, programLeftAt, toggleAt, dybAt, ppbAt, lockAt}
+use Rattle.layout.specs.Commands.{beside, commandWords, commandFits, commandOf}
+use Rattle.layout.specs.Operations.{parts, operationParts, erases, programs, operationOf}
+
+-- ---- what a record's words are
+
+abbrev pub flag : Bool → ℕ
+flag b = if b then 1 else 0
+
+-- "DQ6 + 2 * DQ2"
+abbrev pub toggles : (six two : Bool) → ℕ
+toggles six two = flag six + 2 * flag two
+
+-- block n is bit n % 64 of word n / 64 of five
+abbrev pub blocksSection : Blocks → List ℕ
+blocksSection s = s .w0 ∷ s .w1 ∷ s .w2 ∷ s .w3 ∷ s .w4 ∷ []
+
+abbrev pub meterSection : Meter → List ℕ
+meterSection m = m .clock ∷ m .charge ∷ []
+
+abbrev pub commandSection : CommandWords → List ℕ
+commandSection c = c .number ∷ c .place ∷ []
+
+abbrev pub eraseSection : Erase → List ℕ
+eraseSection e = blocksSection (e .list) ++ (e .hand ∷ e .left ∷ toggles (e .dq6) (e .dq2) ∷ [])
+
+abbrev pub programSection : Program → List ℕ
+programSection q = q .writes .at ∷ q .writes .word ∷ q .left ∷ flag (q .dq6) ∷ []
+
+abbrev pub operationSection : OperationParts → List ℕ
+operationSection o = o .number ∷ (eraseSection (o .erase) ++ programSection (o .program))
+
+abbrev pub bitsSection : Protection → List ℕ
+bitsSection b = blocksSection (b .dyb) ++ (blocksSection (b .ppb) ++ (flag (b .lock) ∷ []))
+
+unfoldable pub imageOf : Device → List ℕ
+imageOf r =
+    layoutNumber ∷ (meterSection (r .meter) ++ (commandSection (commandWords (r .command))
+    ++ (operationSection (operationParts (r .operation)) ++ bitsSection (r .bits))))
+
+-- ---- what stands at a place
+
+-- a word; past the end, 0
+abbrev pub word : List ℕ → ℕ → ℕ
+word i n = getD i n 0
+
+unfoldable pub wordsFrom : List ℕ → (from count : ℕ) → List ℕ
+wordsFrom i from zero = []
+wordsFrom i from (suc n) = word i from ∷ wordsFrom i (suc from) n
+
+-- those from a place on, up to another
+abbrev pub section : List ℕ → (from end : ℕ) → List ℕ
+section i from end = wordsFrom i from (end - from)
+
+unfoldable pub zeros : List ℕ → Bool
+zeros [] = true
+zeros (x ∷ xs) = eqb x 0 && zeros xs
+
+abbrev pub unused : List ℕ → (from end : ℕ) → Bool
+unused i from end = zeros (section i from end)
+
+abbrev pub meterOf : List ℕ → Meter
+meterOf i = record { clock = word i clockAt; charge = word i chargeAt }
+
+abbrev pub commandWordsOf : List ℕ → CommandWords
+commandWordsOf i = beside (word i commandAt) (word i placeAt)
+
+abbrev pub blocksAt : List ℕ → (from : ℕ) → Blocks
+blocksAt i n = record { w0 = word i n; w1 = word i (n + 1); w2 = word i (n + 2); w3 = word i (n + 3); w4 = word i (n + 4) }
+
+abbrev pub eraseOf : List ℕ → Erase
+eraseOf i =
+    erase (blocksAt i listAt) (word i handAt) (word i eraseLeftAt) (eqb (word i togglesAt % 2) 1) (eqb (word i togglesAt / 2) 1)
+
+abbrev pub programOf : List ℕ → Program
+programOf i = program (writing (word i addressAt) (word i dataAt % 65536)) (word i programLeftAt) (eqb (word i toggleAt) 1)
+
+abbrev pub partsOf : List ℕ → OperationParts
+partsOf i = parts (word i operationAt) (eraseOf i) (programOf i)
+
+abbrev pub bitsOf : List ℕ → Protection
+bitsOf i = record { dyb = blocksAt i dybAt; ppb = blocksAt i ppbAt; lock = eqb (word i lockAt) 1 }
+
+-- ---- which words stand for a record
+
+-- so many words, with the layout's number, and one bit for the lock
+unfoldable pub marked : List ℕ → Bool
+marked i = eqb (length i) recordWords && (eqb (word i layoutAt) layoutNumber && ltb (word i lockAt) 2)
+
+unfoldable pub eraseFits : List ℕ → Bool
+eraseFits i = if erases (word i operationAt) then ltb (word i togglesAt) 4 else unused i listAt addressAt
+
+unfoldable pub programFits : List ℕ → Bool
+programFits i =
+    if programs (word i operationAt) then ltb (word i dataAt) 65536 && ltb (word i toggleAt) 2
+    else unused i addressAt dybAt
+
+unfoldable pub operationFits : List ℕ → Bool
+operationFits i = ltb (word i operationAt) 8 && (eraseFits i && programFits i)
+
+unfoldable pub wellFormed : List ℕ → Bool
+wellFormed i = marked i && (commandFits (commandWordsOf i) && operationFits i)
+
+-- do they stand for an idle device: at ground, with nothing that runs or is suspended?
+unfoldable pub idleWords : List ℕ → Bool
+idleWords i = marked i && unused i commandAt dybAt
+
+-- ---- the record that well-formed words stand for
+
+unfoldable pub deviceOf : List ℕ → Device
+deviceOf i = device (meterOf i) (commandOf (commandWordsOf i)) (operationOf (partsOf i)) (bitsOf i)

@@ -1,0 +1,6 @@
+pub mod Places
+pub mod Commands
+pub mod Operations
+pub mod Image
+pub mod Stored
+pub mod Worked

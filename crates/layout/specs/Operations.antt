@@ -1,0 +1,55 @@
+-- What runs or is suspended as a number, an erase and a program. "A word that is not in use is 0."
+use Prim.Native.Nat.{ℕ}
+use mathlib.Core.Bool.{Bool, false, _||_}
+use lib.Dec.{eqb, leb}
+use Rattle.plain.specs.declared.Program.{Program}
+use Rattle.plain.specs.declared.Erase.{Erase}
+use Rattle.plain.specs.declared.Inside.{Inside}
+use Rattle.plain.specs.declared.Inside.the-variants.{Nothing, Runs}
+use Rattle.plain.specs.declared.Operation.{Operation}
+use Rattle.plain.specs.declared.Operation.the-variants.{Idle, Programming, ProgramSuspended, Window, Erasing, EraseSuspended, ChipErasing}
+use Rattle.plain.specs.Choice.{if_then_else_}
+use Rattle.plain.specs.Programs.{writing}
+use Rattle.plain.specs.Record.{program, erase, suspended}
+use Rattle.layout.specs.declared.OperationParts.{OperationParts}
+
+abbrev pub noErase : Erase
+noErase = erase (record { w0 = 0; w1 = 0; w2 = 0; w3 = 0; w4 = 0 }) 0 0 false false
+
+abbrev pub noProgram : Program
+noProgram = program (writing 0 0) 0 false
+
+abbrev pub parts : (number : ℕ) → Erase → Program → OperationParts
+parts n e q = record { number = n; erase = e; program = q }
+
+unfoldable pub suspendedParts : Erase → Inside → OperationParts
+suspendedParts e Nothing = parts 5 e noProgram
+suspendedParts e (Runs q) = parts 6 e q
+
+unfoldable pub operationParts : Operation → OperationParts
+operationParts Idle = parts 0 noErase noProgram
+operationParts (Programming q) = parts 1 noErase q
+operationParts (ProgramSuspended q) = parts 2 noErase q
+operationParts (Window e) = parts 3 e noProgram
+operationParts (Erasing e) = parts 4 e noProgram
+operationParts (EraseSuspended s) = suspendedParts (s .erase) (s .inside)
+operationParts (ChipErasing e) = parts 7 e noProgram
+
+-- the numbers of those that have an erase, and a program
+abbrev pub erases : (number : ℕ) → Bool
+erases n = leb 3 n
+
+abbrev pub programs : (number : ℕ) → Bool
+programs n = eqb n 1 || (eqb n 2 || eqb n 6)
+
+-- the operation that a number below 8 stands for
+unfoldable pub operationOf : OperationParts → Operation
+operationOf o =
+    if eqb (o .number) 1 then Programming (o .program)
+    else if eqb (o .number) 2 then ProgramSuspended (o .program)
+    else if eqb (o .number) 3 then Window (o .erase)
+    else if eqb (o .number) 4 then Erasing (o .erase)
+    else if eqb (o .number) 5 then EraseSuspended (suspended (o .erase) Nothing)
+    else if eqb (o .number) 6 then EraseSuspended (suspended (o .erase) (Runs (o .program)))
+    else if eqb (o .number) 7 then ChipErasing (o .erase)
+    else Idle

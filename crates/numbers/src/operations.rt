@@ -1,0 +1,98 @@
+// What runs or is suspended, and its number, its erase and its program.
+ghost use mathlib.Core.Path.{_≡_};
+ghost use Rattle.layout.specs.Operations.{noErase, noProgram, parts, suspendedParts, operationParts, operationOf};
+use blocks::Blocks;
+use layout::OperationParts;
+use plain::Erase;
+use plain::Inside;
+use plain::Operation;
+use plain::Program;
+use plain::SuspendedErase;
+use plain::Written;
+
+pub fn parts_of(operation: Operation) -> OperationParts
+    ensures { λ r. ⌜ r ≡ operationParts operation ⌝ }
+{
+    match operation {
+        Operation::Idle => parts(0, no_erase(), no_program()),
+        Operation::Programming(program) => parts(1, no_erase(), program),
+        Operation::ProgramSuspended(program) => parts(2, no_erase(), program),
+        Operation::Window(erase) => parts(3, erase, no_program()),
+        Operation::Erasing(erase) => parts(4, erase, no_program()),
+        Operation::EraseSuspended(suspended) => {
+            let inside = suspended.inside;
+            suspended_parts(suspended.erase, inside)
+        }
+        Operation::ChipErasing(erase) => parts(7, erase, no_program()),
+    }
+}
+
+fn suspended_parts(erase: Erase, inside: Inside) -> OperationParts
+    ensures { λ r. ⌜ r ≡ suspendedParts erase inside ⌝ }
+{
+    match inside {
+        Inside::Nothing => parts(5, erase, no_program()),
+        Inside::Runs(program) => parts(6, erase, program),
+    }
+}
+
+fn parts(number: u64, erase: Erase, program: Program) -> OperationParts
+    ensures { λ r. ⌜ r ≡ parts number erase program ⌝ }
+{
+    OperationParts {
+        number: number,
+        erase: erase,
+        program: program,
+    }
+}
+
+// "A word that is not in use is 0."
+fn no_erase() -> Erase
+    ensures { λ r. ⌜ r ≡ noErase ⌝ }
+{
+    Erase {
+        list: Blocks {
+            w0: 0,
+            w1: 0,
+            w2: 0,
+            w3: 0,
+            w4: 0,
+        },
+        hand: 0,
+        left: 0,
+        dq6: false,
+        dq2: false,
+    }
+}
+
+fn no_program() -> Program
+    ensures { λ r. ⌜ r ≡ noProgram ⌝ }
+{
+    Program {
+        writes: Written { at: 0, word: 0 },
+        left: 0,
+        dq6: false,
+    }
+}
+
+// Of a number past 7, which no record has, it tells that nothing runs.
+pub fn operation_of(number: u64, erase: Erase, program: Program) -> Operation
+    ensures { λ r. ⌜ r ≡ operationOf (parts number erase program) ⌝ }
+{
+    match number {
+        1 => Operation::Programming(program),
+        2 => Operation::ProgramSuspended(program),
+        3 => Operation::Window(erase),
+        4 => Operation::Erasing(erase),
+        5 => Operation::EraseSuspended(SuspendedErase {
+            erase: erase,
+            inside: Inside::Nothing,
+        }),
+        6 => Operation::EraseSuspended(SuspendedErase {
+            erase: erase,
+            inside: Inside::Runs(program),
+        }),
+        7 => Operation::ChipErasing(erase),
+        _ => Operation::Idle,
+    }
+}

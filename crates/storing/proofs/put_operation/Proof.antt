@@ -1,0 +1,17 @@
+use lib.ListN.{length-set}
+use borrow.Author.Needs.{needs}
+use Rattle.layout.specs.Stored.{withOperation}
+use Rattle.storing.proofs.put_operation.Statement.{statement}
+use Rattle.storing.proofs.put_operation.Tie as tie
+
+pub put-operation-spec : {M : Type 1} → statement M
+unfolding withOperation
+put-operation-spec =
+    tie.close
+    (tie.spec
+    (λ c κs. search needs)  -- parts-of-requires
+    (λ c κs. search needs)  -- put-erase-requires
+    (λ c κs. search needs)  -- put-program-requires
+    (λ c. search needs)  -- slice-write-words
+    (λ c. rw length-set (search needs))  -- same-length
+    (λ c. rw (c .before .before .put-program .ensures, c .before .before .before .before .before .before .put-erase .ensures, c .before .before .before .before .before .before .before .before .parts-of .ensures)))  -- returns

@@ -1,0 +1,117 @@
+// A part of a record, or the whole of it, stored among the words that a C program holds.
+ghost use mathlib.Core.Path.{_≡_};
+ghost use Prim.Native.Nat.{_+_, _≤_};
+ghost use lib.ListN.{length};
+ghost use Rattle.layout.specs.Places.{recordWords};
+ghost use Rattle.layout.specs.Image.{imageOf};
+ghost use Rattle.layout.specs.Stored.{withMeter, withCommand, withBlocks, withErase, withProgram, withOperation, withBits};
+use blocks::Blocks;
+use layout::ADDRESS_AT;
+use layout::CHARGE_AT;
+use layout::CLOCK_AT;
+use layout::COMMAND_AT;
+use layout::DATA_AT;
+use layout::DYB_AT;
+use layout::ERASE_LEFT_AT;
+use layout::HAND_AT;
+use layout::LAYOUT;
+use layout::LAYOUT_AT;
+use layout::LIST_AT;
+use layout::LOCK_AT;
+use layout::OPERATION_AT;
+use layout::PLACE_AT;
+use layout::PPB_AT;
+use layout::PROGRAM_LEFT_AT;
+use layout::TOGGLE_AT;
+use layout::TOGGLES_AT;
+use meter::Meter;
+use numbers::commands;
+use numbers::operations;
+use plain::Command;
+use plain::Device;
+use plain::Erase;
+use plain::Operation;
+use plain::Program;
+use protection::Protection;
+
+pub fn put_meter(words: &mut [u64], meter: Meter)
+    requires { ⌜ length (now words) ≡ recordWords ⌝ }
+    ensures { λ _. ⌜ now (words .exit) ≡ withMeter (now (words .entry)) meter ⌝ }
+{
+    words[CLOCK_AT] = meter.clock;
+    words[CHARGE_AT] = meter.charge;
+}
+
+pub fn put_command(words: &mut [u64], command: Command)
+    requires { ⌜ length (now words) ≡ recordWords ⌝ }
+    ensures { λ _. ⌜ now (words .exit) ≡ withCommand (now (words .entry)) command ⌝ }
+{
+    let told = commands::words_of(command);
+    words[COMMAND_AT] = told.number;
+    words[PLACE_AT] = told.place;
+}
+
+pub fn put_operation(words: &mut [u64], operation: Operation)
+    requires { ⌜ length (now words) ≡ recordWords ⌝ }
+    ensures { λ _. ⌜ now (words .exit) ≡ withOperation (now (words .entry)) operation ⌝ }
+{
+    let told = operations::parts_of(operation);
+    put_erase(words, told.erase);
+    put_program(words, told.program);
+    words[OPERATION_AT] = told.number;
+}
+
+fn put_erase(words: &mut [u64], erase: Erase)
+    requires { ⌜ length (now words) ≡ recordWords ⌝ }
+    ensures { λ _. ⌜ now (words .exit) ≡ withErase (now (words .entry)) erase ⌝ }
+{
+    put_blocks(words, LIST_AT, erase.list);
+    words[HAND_AT] = erase.hand as u64;
+    words[ERASE_LEFT_AT] = erase.left;
+    words[TOGGLES_AT] = erase.dq6 as u64 + 2 * (erase.dq2 as u64);
+}
+
+fn put_program(words: &mut [u64], program: Program)
+    requires { ⌜ length (now words) ≡ recordWords ⌝ }
+    ensures { λ _. ⌜ now (words .exit) ≡ withProgram (now (words .entry)) program ⌝ }
+{
+    words[ADDRESS_AT] = program.writes.at as u64;
+    words[DATA_AT] = program.writes.word as u64;
+    words[PROGRAM_LEFT_AT] = program.left;
+    words[TOGGLE_AT] = program.dq6 as u64;
+}
+
+fn put_bits(words: &mut [u64], bits: Protection)
+    requires { ⌜ length (now words) ≡ recordWords ⌝ }
+    ensures { λ _. ⌜ now (words .exit) ≡ withBits (now (words .entry)) bits ⌝ }
+{
+    put_blocks(words, DYB_AT, bits.dyb);
+    put_blocks(words, PPB_AT, bits.ppb);
+    words[LOCK_AT] = bits.lock as u64;
+}
+
+// A set of blocks, in five words.
+fn put_blocks(words: &mut [u64], from: usize, set: Blocks)
+    requires { ⌜ from + 5 ≤ length (now words) ⌝ }
+    ensures { λ _. ⌜ now (words .exit) ≡ withBlocks (now (words .entry)) from set ⌝ }
+{
+    words[from] = set.w0;
+    words[from + 1] = set.w1;
+    words[from + 2] = set.w2;
+    words[from + 3] = set.w3;
+    words[from + 4] = set.w4;
+}
+
+// The whole record, over any words.
+pub fn put(words: &mut [u64], device: Device)
+    requires { ⌜ length (now words) ≡ recordWords ⌝ }
+    ensures { λ _. ⌜ now (words .exit) ≡ imageOf device ⌝ }
+{
+    let command = device.command;
+    let operation = device.operation;
+    put_meter(words, device.meter);
+    put_command(words, command);
+    put_operation(words, operation);
+    put_bits(words, device.bits);
+    words[LAYOUT_AT] = LAYOUT;
+}
