@@ -5,14 +5,7 @@ ghost use Rattle.layout.specs.Places.{recordWords};
 ghost use Rattle.layout.specs.Commands.{beside, commandFits};
 ghost use Rattle.layout.specs.Operations.{programs};
 ghost use Rattle.layout.specs.Image.{eraseFits, programFits, operationFits};
-use crate::sets;
-use layout::ADDRESS_AT;
-use layout::DATA_AT;
-use layout::DYB_AT;
-use layout::LIST_AT;
-use layout::OPERATION_AT;
-use layout::TOGGLE_AT;
-use layout::TOGGLES_AT;
+use crate::sections;
 
 // Is there a command of that number, and does it have a place if one is told?
 pub fn command_fits(number: u64, place: u64) -> bool
@@ -34,7 +27,7 @@ pub fn operation_fits(words: &[u64]) -> bool
     requires { ⌜ length (now words) ≡ recordWords ⌝ }
     ensures { λ r. ⌜ r ≡ operationFits (now (words .entry)) ⌝ }
 {
-    if 8 <= words[OPERATION_AT] {
+    if 8 <= words[layout::OPERATION_AT] {
         return false;
     }
     if !erase_fits(words) {
@@ -47,23 +40,23 @@ fn erase_fits(words: &[u64]) -> bool
     requires { ⌜ length (now words) ≡ recordWords ⌝ }
     ensures { λ r. ⌜ r ≡ eraseFits (now (words .entry)) ⌝ }
 {
-    if 3 <= words[OPERATION_AT] {
-        return words[TOGGLES_AT] < 4;
+    if 3 <= words[layout::OPERATION_AT] {
+        return words[layout::TOGGLES_AT] < 4;
     }
-    sets::are_unused(words, LIST_AT, ADDRESS_AT)
+    sections::are_unused(words, layout::LIST_AT, layout::ADDRESS_AT)
 }
 
 fn program_fits(words: &[u64]) -> bool
     requires { ⌜ length (now words) ≡ recordWords ⌝ }
     ensures { λ r. ⌜ r ≡ programFits (now (words .entry)) ⌝ }
 {
-    if !programs(words[OPERATION_AT]) {
-        return sets::are_unused(words, ADDRESS_AT, DYB_AT);
+    if !programs(words[layout::OPERATION_AT]) {
+        return sections::are_unused(words, layout::ADDRESS_AT, layout::DYB_AT);
     }
-    if 65536 <= words[DATA_AT] {
+    if 65536 <= words[layout::DATA_AT] {
         return false;
     }
-    words[TOGGLE_AT] < 2
+    words[layout::TOGGLE_AT] < 2
 }
 
 // Does the operation of this number have a program?

@@ -6,19 +6,8 @@ ghost use Rattle.layout.specs.Image.{marked, wellFormed, idleWords, meterOf, bi
 
 mod forms;
 mod parts;
-mod sets;
+mod sections;
 
-use layout::CHARGE_AT;
-use layout::CLOCK_AT;
-use layout::COMMAND_AT;
-use layout::DYB_AT;
-use layout::LAYOUT;
-use layout::LAYOUT_AT;
-use layout::LOCK_AT;
-use layout::OPERATION_AT;
-use layout::PLACE_AT;
-use layout::PPB_AT;
-use layout::RECORD_WORDS;
 use meter::Meter;
 use numbers::commands;
 use numbers::operations;
@@ -32,7 +21,7 @@ pub fn is_well_formed(words: &[u64]) -> bool
     if !is_marked(words) {
         return false;
     }
-    if !forms::command_fits(words[COMMAND_AT], words[PLACE_AT]) {
+    if !forms::command_fits(words[layout::COMMAND_AT], words[layout::PLACE_AT]) {
         return false;
     }
     forms::operation_fits(words)
@@ -45,30 +34,30 @@ pub fn is_idle(words: &[u64]) -> bool
     if !is_marked(words) {
         return false;
     }
-    sets::are_unused(words, COMMAND_AT, DYB_AT)
+    sections::are_unused(words, layout::COMMAND_AT, layout::DYB_AT)
 }
 
 // As many words as a record has, with the layout's number, and one bit for the lock.
 fn is_marked(words: &[u64]) -> bool
     ensures { λ r. ⌜ r ≡ marked (now (words .entry)) ⌝ }
 {
-    if words.len() != RECORD_WORDS {
+    if words.len() != layout::RECORD_WORDS {
         return false;
     }
-    if words[LAYOUT_AT] != LAYOUT {
+    if words[layout::LAYOUT_AT] != layout::LAYOUT {
         return false;
     }
-    words[LOCK_AT] < 2
+    words[layout::LOCK_AT] < 2
 }
 
 pub fn device_of(words: &[u64]) -> Device
     requires { ⌜ length (now words) ≡ recordWords ⌝ }
     ensures { λ r. ⌜ r ≡ deviceOf (now (words .entry)) ⌝ }
 {
-    let command = commands::command_of(words[COMMAND_AT], words[PLACE_AT]);
+    let command = commands::command_of(words[layout::COMMAND_AT], words[layout::PLACE_AT]);
     let erase = parts::erase_of(words);
     let program = parts::program_of(words);
-    let operation = operations::operation_of(words[OPERATION_AT], erase, program);
+    let operation = operations::operation_of(words[layout::OPERATION_AT], erase, program);
     let meter = meter_of(words);
     let bits = bits_of(words);
     Device {
@@ -84,8 +73,8 @@ pub fn meter_of(words: &[u64]) -> Meter
     ensures { λ r. ⌜ r ≡ meterOf (now (words .entry)) ⌝ }
 {
     Meter {
-        clock: words[CLOCK_AT],
-        charge: words[CHARGE_AT],
+        clock: words[layout::CLOCK_AT],
+        charge: words[layout::CHARGE_AT],
     }
 }
 
@@ -93,11 +82,11 @@ pub fn bits_of(words: &[u64]) -> Protection
     requires { ⌜ length (now words) ≡ recordWords ⌝ }
     ensures { λ r. ⌜ r ≡ bitsOf (now (words .entry)) ⌝ }
 {
-    let dyb = sets::blocks_at(words, DYB_AT);
-    let ppb = sets::blocks_at(words, PPB_AT);
+    let dyb = sections::blocks_at(words, layout::DYB_AT);
+    let ppb = sections::blocks_at(words, layout::PPB_AT);
     Protection {
         dyb: dyb,
         ppb: ppb,
-        lock: words[LOCK_AT] == 1,
+        lock: words[layout::LOCK_AT] == 1,
     }
 }

@@ -6,24 +6,6 @@ ghost use Rattle.layout.specs.Places.{recordWords};
 ghost use Rattle.layout.specs.Image.{imageOf};
 ghost use Rattle.layout.specs.Stored.{withMeter, withCommand, withBlocks, withErase, withProgram, withOperation, withBits};
 use blocks::Blocks;
-use layout::ADDRESS_AT;
-use layout::CHARGE_AT;
-use layout::CLOCK_AT;
-use layout::COMMAND_AT;
-use layout::DATA_AT;
-use layout::DYB_AT;
-use layout::ERASE_LEFT_AT;
-use layout::HAND_AT;
-use layout::LAYOUT;
-use layout::LAYOUT_AT;
-use layout::LIST_AT;
-use layout::LOCK_AT;
-use layout::OPERATION_AT;
-use layout::PLACE_AT;
-use layout::PPB_AT;
-use layout::PROGRAM_LEFT_AT;
-use layout::TOGGLE_AT;
-use layout::TOGGLES_AT;
 use meter::Meter;
 use numbers::commands;
 use numbers::operations;
@@ -38,8 +20,8 @@ pub fn put_meter(words: &mut [u64], meter: Meter)
     requires { ⌜ length (now words) ≡ recordWords ⌝ }
     ensures { λ _. ⌜ now (words .exit) ≡ withMeter (now (words .entry)) meter ⌝ }
 {
-    words[CLOCK_AT] = meter.clock;
-    words[CHARGE_AT] = meter.charge;
+    words[layout::CLOCK_AT] = meter.clock;
+    words[layout::CHARGE_AT] = meter.charge;
 }
 
 pub fn put_command(words: &mut [u64], command: Command)
@@ -47,8 +29,8 @@ pub fn put_command(words: &mut [u64], command: Command)
     ensures { λ _. ⌜ now (words .exit) ≡ withCommand (now (words .entry)) command ⌝ }
 {
     let told = commands::words_of(command);
-    words[COMMAND_AT] = told.number;
-    words[PLACE_AT] = told.place;
+    words[layout::COMMAND_AT] = told.number;
+    words[layout::PLACE_AT] = told.place;
 }
 
 pub fn put_operation(words: &mut [u64], operation: Operation)
@@ -58,36 +40,36 @@ pub fn put_operation(words: &mut [u64], operation: Operation)
     let told = operations::parts_of(operation);
     put_erase(words, told.erase);
     put_program(words, told.program);
-    words[OPERATION_AT] = told.number;
+    words[layout::OPERATION_AT] = told.number;
 }
 
 fn put_erase(words: &mut [u64], erase: Erase)
     requires { ⌜ length (now words) ≡ recordWords ⌝ }
     ensures { λ _. ⌜ now (words .exit) ≡ withErase (now (words .entry)) erase ⌝ }
 {
-    put_blocks(words, LIST_AT, erase.list);
-    words[HAND_AT] = erase.hand as u64;
-    words[ERASE_LEFT_AT] = erase.left;
-    words[TOGGLES_AT] = erase.dq6 as u64 + 2 * (erase.dq2 as u64);
+    put_blocks(words, layout::LIST_AT, erase.list);
+    words[layout::HAND_AT] = erase.hand as u64;
+    words[layout::ERASE_LEFT_AT] = erase.left;
+    words[layout::TOGGLES_AT] = erase.dq6 as u64 + 2 * (erase.dq2 as u64);
 }
 
 fn put_program(words: &mut [u64], program: Program)
     requires { ⌜ length (now words) ≡ recordWords ⌝ }
     ensures { λ _. ⌜ now (words .exit) ≡ withProgram (now (words .entry)) program ⌝ }
 {
-    words[ADDRESS_AT] = program.writes.at as u64;
-    words[DATA_AT] = program.writes.word as u64;
-    words[PROGRAM_LEFT_AT] = program.left;
-    words[TOGGLE_AT] = program.dq6 as u64;
+    words[layout::ADDRESS_AT] = program.writes.at as u64;
+    words[layout::DATA_AT] = program.writes.word as u64;
+    words[layout::PROGRAM_LEFT_AT] = program.left;
+    words[layout::TOGGLE_AT] = program.dq6 as u64;
 }
 
 fn put_bits(words: &mut [u64], bits: Protection)
     requires { ⌜ length (now words) ≡ recordWords ⌝ }
     ensures { λ _. ⌜ now (words .exit) ≡ withBits (now (words .entry)) bits ⌝ }
 {
-    put_blocks(words, DYB_AT, bits.dyb);
-    put_blocks(words, PPB_AT, bits.ppb);
-    words[LOCK_AT] = bits.lock as u64;
+    put_blocks(words, layout::DYB_AT, bits.dyb);
+    put_blocks(words, layout::PPB_AT, bits.ppb);
+    words[layout::LOCK_AT] = bits.lock as u64;
 }
 
 // A set of blocks, in five words.
@@ -113,5 +95,5 @@ pub fn put(words: &mut [u64], device: Device)
     put_command(words, command);
     put_operation(words, operation);
     put_bits(words, device.bits);
-    words[LAYOUT_AT] = LAYOUT;
+    words[layout::LAYOUT_AT] = layout::LAYOUT;
 }

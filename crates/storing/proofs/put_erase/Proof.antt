@@ -17,7 +17,7 @@ put-erase-spec =
     (λ c. search needs)  -- slice-write-words-2
     (λ c. search needs)  -- cast-words
     (λ c. search needs)  -- cast-words-2
-    (λ c. omega (arith, byte-fits (c .before .before .before .before .before .before .before .args .erase .dq2)))  -- mul-words
+    (λ c. omega (arith, byte-fits (c .before .before .before .before .before .before .before .args .erase .dq6), byte-fits (c .before .before .before .before .before .before .before .args .erase .dq2)))  -- mul-words
     (λ c. omega (arith, byte-fits (c .before .before .before .before .before .before .before .args .erase .dq6), byte-fits (c .before .before .before .before .before .before .before .args .erase .dq2)))  -- add-words
     (λ c. simp length-set (rw (c .before .before .before .before .put-blocks .ensures, long-blocks) (omega (arith, c .before .before .before .before .before .before .before .pre))))  -- slice-write-words-3
     (λ c. search needs)  -- same-length

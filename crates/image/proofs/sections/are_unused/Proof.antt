@@ -2,8 +2,8 @@ use Prim.Native.Nat.{_-_}
 use mathlib.Core.Path.{refl}
 use native.Mathlib.Omega.{arith}
 use Rattle.image.proofs.Unused.{Joined, joined-on, joined-all}
-use Rattle.image.proofs.sets.are_unused.Statement.{statement}
-use Rattle.image.proofs.sets.are_unused.Tie as tie
+use Rattle.image.proofs.sections.are_unused.Statement.{statement}
+use Rattle.image.proofs.sections.are_unused.Tie as tie
 
 abbrev Inv-loop : tie.InvT-loop
 Inv-loop words from end joined₀ i₀ joined i = Joined words from end joined i
