@@ -5,18 +5,12 @@ ghost use Rattle.face.specs.Face.{packed, freshRefusal, freshImage, faceRead, f
 
 mod asked_of;
 
-use plain::Refusal;
-
 #[no_mangle]
 pub extern "C" fn k5l_fresh(words: &mut [u64]) -> u64
     ensures { λ r. ⌜ r ≡ freshRefusal (now (words .entry)) ⌝ }
     ensures { λ r. ⌜ now (words .exit) ≡ freshImage (now (words .entry)) ⌝ }
 {
-    if words.len() != layout::RECORD_WORDS {
-        return answers::number_of(Refusal::State);
-    }
-    storing::put(words, machine::fresh());
-    answers::number_of(Refusal::Done)
+    idling::fresh::make(words)
 }
 
 #[no_mangle]
@@ -27,7 +21,7 @@ pub extern "C" fn k5l_read(part: u64, words: &mut [u64], cells: &[u16], address:
     if image::is_idle(words) {
         return idling::read(part, words, cells, address);
     }
-    working::read(part, words, cells, address)
+    bus::read(part, words, cells, address)
 }
 
 #[no_mangle]
@@ -44,7 +38,7 @@ pub extern "C" fn k5l_write(
     if image::is_idle(words) {
         return idling::write(part, words, cells, address, word);
     }
-    working::write(part, words, cells, address, word)
+    bus::write(part, words, cells, address, word)
 }
 
 #[no_mangle]
@@ -61,7 +55,7 @@ pub extern "C" fn k5l_wait(
     if image::is_idle(words) {
         return idling::wait(part, words, cells, microseconds);
     }
-    working::wait(part, words, cells, microseconds)
+    lapses::wait(part, words, cells, microseconds)
 }
 
 #[no_mangle]
@@ -70,5 +64,5 @@ pub extern "C" fn k5l_cut(part: u64, words: &mut [u64], cells: &mut [u16], debri
     ensures { λ r. ⌜ now (words .exit) ≡ faceCut part (now (words .entry)) (now (cells .entry)) (now (debris .entry)) .image ⌝ }
     ensures { λ r. ⌜ now (cells .exit) ≡ faceCut part (now (words .entry)) (now (cells .entry)) (now (debris .entry)) .cells ⌝ }
 {
-    working::cut(part, words, cells, debris)
+    lapses::cut(part, words, cells, debris)
 }

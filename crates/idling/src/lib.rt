@@ -4,6 +4,9 @@ ghost use mathlib.Core.Path.{_≡_};
 ghost use mathlib.Core.Bool.{true};
 ghost use Rattle.layout.specs.Image.{idleWords};
 ghost use Rattle.face.specs.Face.{packed, faceEntry, faceRead, faceWrite, faceWait};
+
+pub mod fresh;
+
 use plain::Command;
 use plain::Cycle;
 use plain::Entry;

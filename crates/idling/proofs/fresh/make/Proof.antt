@@ -1,10 +1,10 @@
 use borrow.Author.Tests.{eq-eqb, ne-eqb}
 use borrow.Author.Needs.{needs}
-use Rattle.emulator.proofs.k5l_fresh.Statement.{statement}
-use Rattle.emulator.proofs.k5l_fresh.Tie as tie
+use Rattle.idling.proofs.fresh.make.Statement.{statement}
+use Rattle.idling.proofs.fresh.make.Tie as tie
 
-pub k5l-fresh-spec : {M : Type 1} → statement M
-k5l-fresh-spec =
+pub make-spec : {M : Type 1} → statement M
+make-spec =
     tie.close
     (tie.spec
     (λ c κs. search needs)  -- number-of-requires

@@ -4,8 +4,8 @@ use Rattle.face.specs.Face.{Faced, packed}
 use Rattle.face.proofs.Faces.{well, whole, read-none, read-some}
 use Rattle.face.proofs.Kept.{read-stored}
 use borrow.Author.Needs.{needs}
-use Rattle.working.proofs.read.Statement.{statement}
-use Rattle.working.proofs.read.Tie as tie
+use Rattle.bus.proofs.read.Statement.{statement}
+use Rattle.bus.proofs.read.Tie as tie
 
 pub read-spec : {M : Type 1} → statement M
 read-spec =

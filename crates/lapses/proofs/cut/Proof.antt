@@ -3,8 +3,8 @@ use Rattle.machine.proofs.Laws.{is-so, unsound}
 use Rattle.face.specs.Face.{Faced}
 use Rattle.face.proofs.Faces.{well, whole, cut-none, cut-some}
 use borrow.Author.Needs.{needs}
-use Rattle.working.proofs.cut.Statement.{statement}
-use Rattle.working.proofs.cut.Tie as tie
+use Rattle.lapses.proofs.cut.Statement.{statement}
+use Rattle.lapses.proofs.cut.Tie as tie
 
 pub cut-spec : {M : Type 1} → statement M
 cut-spec =

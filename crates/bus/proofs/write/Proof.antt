@@ -3,8 +3,8 @@ use Rattle.machine.proofs.Laws.{is-so, unsound}
 use Rattle.face.specs.Face.{Faced}
 use Rattle.face.proofs.Faces.{well, whole, write-none, write-some}
 use borrow.Author.Needs.{needs}
-use Rattle.working.proofs.write.Statement.{statement}
-use Rattle.working.proofs.write.Tie as tie
+use Rattle.bus.proofs.write.Statement.{statement}
+use Rattle.bus.proofs.write.Tie as tie
 
 pub write-spec : {M : Type 1} → statement M
 write-spec =

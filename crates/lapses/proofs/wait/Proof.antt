@@ -5,8 +5,8 @@ use Rattle.face.specs.Face.{Faced}
 use Rattle.face.proofs.Faces.{well, whole, wait-none, wait-some}
 use Rattle.face.proofs.Kept.{wait-stored}
 use borrow.Author.Needs.{needs}
-use Rattle.working.proofs.wait.Statement.{statement}
-use Rattle.working.proofs.wait.Tie as tie
+use Rattle.lapses.proofs.wait.Statement.{statement}
+use Rattle.lapses.proofs.wait.Tie as tie
 
 pub wait-spec : {M : Type 1} → statement M
 wait-spec =
