@@ -1,21 +1,17 @@
 -- Well-formed words are the image of the record that they stand for: no other words stand for it.
-use Prim.Native.Nat.{ℕ, _+_}
-use mathlib.Core.Path.{_≡_, refl, ap, ap₂, sym, _∙_}
+use Prim.Native.Nat.{ℕ}
+use mathlib.Core.Path.{_≡_, ap, ap₂, sym, _∙_}
 use mathlib.Core.Bool.{Bool, true, false, _&&_}
 use mathlib.Core.List.{List, _∷_, _++_}
 use native.Mathlib.Nat.{mod-eq-of-lt}
 use lib.Dec.{eqb, ltb}
 use lib.ListN.{length}
 use borrow.Author.Tests.{eqb-true, ltb-true}
-use Rattle.plain.specs.declared.Erase.{Erase}
-use Rattle.plain.specs.declared.Program.{Program}
 use Rattle.plain.specs.Choice.{if_then_else_}
 use Rattle.plain.proofs.Tools.{both-left, both-right}
-use Rattle.layout.specs.declared.CommandWords.{CommandWords}
-use Rattle.layout.specs.declared.OperationParts.{OperationParts}
 use Rattle.layout.specs.Places.{layoutNumber, recordWords, layoutAt, clockAt, commandAt, operationAt, listAt, togglesAt, addressAt, dataAt, toggleAt, dybAt, lockAt}
 use Rattle.layout.specs.Commands.{commandFits}
-use Rattle.layout.specs.Operations.{noErase, noProgram, parts, erases, programs, operationParts, operationOf}
+use Rattle.layout.specs.Operations.{noErase, noProgram, erases, programs, operationParts, operationOf}
 use Rattle.layout.specs.Image.{commandSection, eraseSection, programSection, operationSection, bitsSection, imageOf, word, wordsFrom, section, unused, commandWordsOf, eraseOf, programOf, partsOf, bitsOf, marked, eraseFits, programFits, operationFits, wellFormed, deviceOf}
 use Rattle.layout.proofs.Words.{section-whole, zeros-are, flag-back, toggles-back}
 use Rattle.layout.proofs.Commands.{command-back}

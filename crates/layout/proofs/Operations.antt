@@ -2,8 +2,7 @@
 use Prim.Native.Nat.{ℕ}
 use mathlib.Core.Path.{_≡_, refl}
 use mathlib.Core.Bool.{true}
-use mathlib.Core.List.{List}
-use lib.Dec.{eqb, ltb, leb}
+use lib.Dec.{ltb}
 use Rattle.plain.specs.declared.Program.{Program}
 use Rattle.plain.specs.declared.Erase.{Erase}
 use Rattle.plain.specs.declared.Inside.{Inside}
@@ -12,7 +11,6 @@ use Rattle.plain.specs.declared.Operation.{Operation}
 use Rattle.plain.specs.declared.Operation.the-variants.{Idle, Programming, ProgramSuspended, Window, Erasing, EraseSuspended, ChipErasing}
 use Rattle.plain.specs.Choice.{if_then_else_}
 use Rattle.plain.specs.Record.{suspended}
-use Rattle.layout.specs.declared.OperationParts.{OperationParts}
 use Rattle.layout.specs.Operations.{noErase, noProgram, parts, suspendedParts, operationParts, erases, programs, operationOf}
 use Rattle.layout.proofs.Words.{each}
 

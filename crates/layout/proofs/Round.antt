@@ -1,6 +1,6 @@
 -- A record's image is well-formed, and stands for that record.
-use Prim.Native.Nat.{ℕ, _/_, _%_, _<_}
-use mathlib.Core.Path.{_≡_, refl, ap, ap₂, _∙_}
+use Prim.Native.Nat.{_/_, _%_, _<_}
+use mathlib.Core.Path.{_≡_, ap₂, _∙_}
 use mathlib.Core.Bool.{Bool, true, false, _&&_}
 use native.Mathlib.Nat.{mod-eq-of-lt}
 use lib.Dec.{eqb, ltb}
@@ -16,8 +16,6 @@ use Rattle.plain.specs.Choice.{if_then_else_}
 use Rattle.plain.specs.Programs.{writing}
 use Rattle.plain.specs.Record.{device, program, erase}
 use Rattle.plain.proofs.Tools.{both}
-use Rattle.layout.specs.declared.OperationParts.{OperationParts}
-use Rattle.layout.specs.Commands.{commandWords, commandFits}
 use Rattle.layout.specs.Operations.{noErase, noProgram, parts, operationParts, erases, programs, operationOf}
 use Rattle.layout.specs.Image.{flag, toggles, eraseSection, programSection, imageOf, wordsFrom, zeros, marked, eraseFits, programFits, operationFits, wellFormed, deviceOf}
 use Rattle.layout.proofs.Words.{flag-is, flag-fits, toggles-low, toggles-high, toggles-fit}

@@ -6,14 +6,12 @@ use mathlib.Core.List.{List}
 use lib.ListN.{length, length-set}
 use Rattle.blocks.specs.declared.Blocks.{Blocks}
 use Rattle.meter.specs.declared.Meter.{Meter}
-use Rattle.plain.specs.declared.Erase.{Erase}
-use Rattle.plain.specs.declared.Program.{Program}
 use Rattle.plain.specs.declared.Operation.{Operation}
 use Rattle.plain.specs.declared.Command.{Command}
 use Rattle.plain.specs.declared.Device.{Device}
 use Rattle.plain.specs.Record.{device}
 use Rattle.layout.specs.Places.{recordWords}
-use Rattle.layout.specs.Image.{imageOf, wordsFrom, section, wellFormed, deviceOf}
+use Rattle.layout.specs.Image.{imageOf, wordsFrom, wellFormed, deviceOf}
 use Rattle.layout.specs.Stored.{withMeter, withCommand, withBlocks, withErase, withProgram, withOperation, withBits, withRecord}
 use Rattle.layout.proofs.Words.{section-whole}
 use Rattle.layout.proofs.Canonical.{canonical}
@@ -25,25 +23,9 @@ module _ (i : List ℕ) where
   unfolding withMeter
   long-meter m = simp length-set
 
-  pub long-command : (c : Command) → length (withCommand i c) ≡ length i
-  unfolding withCommand
-  long-command c = simp length-set
-
   pub long-blocks : (n : ℕ) (s : Blocks) → length (withBlocks i n s) ≡ length i
   unfolding withBlocks
   long-blocks n s = simp length-set
-
-  pub long-erase : (e : Erase) → length (withErase i e) ≡ length i
-  unfolding withErase withBlocks
-  long-erase e = simp length-set
-
-  pub long-program : (q : Program) → length (withProgram i q) ≡ length i
-  unfolding withProgram
-  long-program q = simp length-set
-
-  pub long-operation : (o : Operation) → length (withOperation i o) ≡ length i
-  unfolding withOperation withErase withBlocks withProgram
-  long-operation o = simp length-set
 
 -- ---- over words that stand for a record
 
