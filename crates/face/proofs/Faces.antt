@@ -12,7 +12,7 @@ use Rattle.plain.specs.declared.Entry.the-variants.{Admitted, Barred}
 use Rattle.plain.specs.Lent.{lent}
 use Rattle.plain.specs.Refusals.{number}
 use Rattle.plain.specs.Machine.{Outcome, Fit, refused, entry, readEvent, writeEvent, waitEvent, cutEvent}
-use Rattle.plain.proofs.Tools.{by-cases, both-left, both-right}
+use Rattle.plain.proofs.Tools.{by-cases, both-right, clash}
 use Rattle.plain.proofs.Ladder.{admitted}
 use Rattle.plain.proofs.EventLaws as events
 use Rattle.layout.specs.Places.{recordWords}
@@ -49,9 +49,12 @@ module _ (part : ℕ) (i : List ℕ) where
   pub whole : stands part i ≡ true → length i ≡ recordWords
   whole s = long i (well s)
 
-  pub sound-whole : standsSound part i ≡ true → length i ≡ recordWords
+  unsound-none : stands part i ≡ false → standsSound part i ≡ false
   unfolding standsSound
-  sound-whole s = whole (both-left (stands part i) _ s)
+  unsound-none s = rw s
+
+  pub sound-whole : standsSound part i ≡ true → length i ≡ recordWords
+  sound-whole h = by-cases (stands part i) whole (λ s. clash h (unsound-none s))
 
   -- words that stand for a record are left as they were by an answer that leaves the record
   pub kept : (n w : ℕ) (cells : List ℕ) → stands part i ≡ true → answered n w (imageOf (deviceOf i)) cells ≡ answered n w i cells
