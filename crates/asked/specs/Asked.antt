@@ -6,7 +6,7 @@ use lib.Dec.{ltb}
 use Rattle.geometry.specs.Parts.{bankCount}
 use Rattle.plain.specs.Choice.{if_then_else_}
 use Rattle.layout.specs.Image.{deviceOf}
-use Rattle.machine.specs.Asked.{exposedNow, readsCells}
+use Rattle.judged.specs.Asked.{exposedNow, readsCells}
 use Rattle.face.specs.Face.{partNamed, stands, none, placeNumber}
 
 -- "The block and the word that a cut would change if it came now; K5L_NONE for none, and for a record that is not sound."

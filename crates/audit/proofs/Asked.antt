@@ -30,7 +30,7 @@ use Rattle.cutting.specs.declared.begun.Exposed.{Exposed}
 use Rattle.cutting.specs.Cuttable.{exposedBy}
 use Rattle.mapping.specs.Mapped.{givesCells}
 use Rattle.mapping.proofs.GivesCells.{gives-cells}
-use Rattle.machine.specs.Asked.{exposedNow, readsCells}
+use Rattle.judged.specs.Asked.{exposedNow, readsCells}
 
 -- ---- no accepted cut changes a cell outside what `exposed` tells
 

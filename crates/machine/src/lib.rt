@@ -4,15 +4,13 @@ ghost use mathlib.Core.Path.{_≡_};
 ghost use Rattle.plain.specs.Lent.{lent};
 ghost use Rattle.plain.specs.Record.{fresh};
 ghost use Rattle.plain.specs.Sound.{sound};
-ghost use Rattle.plain.specs.Machine.{entry, readEvent, writeEvent, waitEvent, cutEvent};
-ghost use Rattle.machine.specs.Asked.{exposedNow, readsCells};
+ghost use Rattle.plain.specs.Machine.{readEvent, writeEvent, waitEvent, cutEvent};
+ghost use Rattle.judged.specs.Asked.{exposedNow, readsCells};
 use cutting::Exposed;
 use geometry::Part;
 use plain::Answer;
 use plain::Device;
 use plain::Entry;
-use plain::Place;
-use plain::Refusal;
 
 // "A fresh device has clock 0, charge 0, no operation, no protection, any cells."
 pub fn fresh() -> Device
@@ -30,7 +28,7 @@ pub fn is_sound(part: Part, device: Device) -> bool
 pub fn read(part: Part, device: Device, cells: &[u16], address: usize) -> Answer
     ensures { λ r. ⌜ r ≡ readEvent part device (lent (now (cells .entry))) address .answer ⌝ }
 {
-    let entry = entry(part, device, cells);
+    let entry = judged::entry(part, device, cells);
     match entry {
         Entry::Barred(refusal) => answers::refused(refusal, device),
         Entry::Admitted => admitted::read(part, device, cells, address),
@@ -41,7 +39,7 @@ pub fn read(part: Part, device: Device, cells: &[u16], address: usize) -> Answer
 pub fn write(part: Part, device: Device, cells: &[u16], address: usize, word: u16) -> Answer
     ensures { λ r. ⌜ r ≡ writeEvent part device (lent (now (cells .entry))) address word .answer ⌝ }
 {
-    let entry = entry(part, device, cells);
+    let entry = judged::entry(part, device, cells);
     match entry {
         Entry::Barred(refusal) => answers::refused(refusal, device),
         Entry::Admitted => admitted::write(part, device, address, word),
@@ -52,10 +50,10 @@ pub fn wait(part: Part, device: Device, cells: &mut [u16], microseconds: u64) ->
     ensures { λ r. ⌜ r ≡ waitEvent part device (lent (now (cells .entry))) microseconds .answer ⌝ }
     ensures { λ r. ⌜ now (cells .exit) ≡ waitEvent part device (lent (now (cells .entry))) microseconds .lent .cells ⌝ }
 {
-    let entry = entry(part, device, cells);
+    let entry = judged::entry(part, device, cells);
     match entry {
         Entry::Barred(refusal) => answers::refused(refusal, device),
-        Entry::Admitted => admitted::wait(part, device, cells, microseconds),
+        Entry::Admitted => elapsed::wait(part, device, cells, microseconds),
     }
 }
 
@@ -63,48 +61,23 @@ pub fn cut(part: Part, device: Device, cells: &mut [u16], debris: &[u16]) -> Ans
     ensures { λ r. ⌜ r ≡ cutEvent part device (lent (now (cells .entry))) (now (debris .entry)) .answer ⌝ }
     ensures { λ r. ⌜ now (cells .exit) ≡ cutEvent part device (lent (now (cells .entry))) (now (debris .entry)) .lent .cells ⌝ }
 {
-    let entry = entry(part, device, cells);
+    let entry = judged::entry(part, device, cells);
     match entry {
         Entry::Barred(refusal) => answers::refused(refusal, device),
-        Entry::Admitted => admitted::cut(part, device, cells, debris),
+        Entry::Admitted => elapsed::cut(part, device, cells, debris),
     }
-}
-
-// The checks that every event begins with: STATE, then CELLS.
-fn entry(part: Part, device: Device, cells: &[u16]) -> Entry
-    ensures { λ r. ⌜ r ≡ entry part device (lent (now (cells .entry))) ⌝ }
-{
-    if !soundness::is_sound(part, device) {
-        return Entry::Barred(Refusal::State);
-    }
-    if cells.len() != part.words() {
-        return Entry::Barred(Refusal::Cells);
-    }
-    Entry::Admitted
 }
 
 // Which block and which word an accepted cut would change if it came now; none for a record that is not sound.
 pub fn exposed(part: Part, device: Device) -> Exposed
     ensures { λ r. ⌜ r ≡ exposedNow part device ⌝ }
 {
-    if !soundness::is_sound(part, device) {
-        return Exposed {
-            block: Place::Nowhere,
-            word: Place::Nowhere,
-        };
-    }
-    let operation = device.operation;
-    cutting::exposed(part, operation)
+    judged::exposed(part, device)
 }
 
 // Do reads in a bank give the cells and change nothing? Then an emulator may map the cells while it holds.
 pub fn reads_cells(part: Part, device: Device, bank: usize) -> bool
     ensures { λ r. ⌜ r ≡ readsCells part device bank ⌝ }
 {
-    if !soundness::is_sound(part, device) {
-        return false;
-    }
-    let command = device.command;
-    let operation = device.operation;
-    mapping::gives_cells(part, command, operation, bank)
+    judged::reads_cells(part, device, bank)
 }

@@ -1,4 +1,4 @@
--- What a program writes, and all that is asked of it: nothing outside this file takes its address and data apart.
+-- What a program writes, and all that is asked of it: nothing else takes its address and data apart, but the words for C.
 use Prim.Native.Nat.{ℕ, _/_, _%_}
 use mathlib.Core.Bool.{Bool}
 use mathlib.Core.List.{List}

@@ -1,4 +1,4 @@
-// What a program writes, and all that is asked of it: no other crate takes its address and data apart.
+// What a program writes, and all that is asked of it: no other crate takes its address and data apart, but those of the words for C.
 ghost use mathlib.Core.Path.{_≡_};
 ghost use mathlib.Core.Bool.{true};
 ghost use Prim.Native.Nat.{_≤_};

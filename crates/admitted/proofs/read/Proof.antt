@@ -2,7 +2,7 @@ use mathlib.Core.Path.{sym, _∙_}
 use native.Mathlib.Omega.{arith}
 use borrow.Author.Needs.{needs}
 use Rattle.plain.proofs.EventLaws.{read-address, read-passes}
-use Rattle.admitted.proofs.Laws.{answers}
+use Rattle.answers.proofs.Outcomes.{answers}
 use Rattle.admitted.proofs.read.Statement.{statement}
 use Rattle.admitted.proofs.read.Tie as tie
 

@@ -1,7 +1,7 @@
 use mathlib.Core.Path.{_∙_}
 use borrow.Author.Needs.{needs}
 use Rattle.plain.proofs.EventLaws.{write-address, write-passes}
-use Rattle.admitted.proofs.Laws.{answers}
+use Rattle.answers.proofs.Outcomes.{answers}
 use Rattle.admitted.proofs.write.Statement.{statement}
 use Rattle.admitted.proofs.write.Tie as tie
 

@@ -1,4 +1,4 @@
-use Rattle.machine.proofs.Laws.{is-so, unsound}
+use Rattle.judged.proofs.Laws.{is-so, unsound}
 use Rattle.face.proofs.Faces.{whole}
 use Rattle.asked.specs.Asked.{faceExposedBlock}
 use borrow.Author.Needs.{needs}

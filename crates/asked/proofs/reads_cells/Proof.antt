@@ -2,7 +2,7 @@ use borrow.Author.Tests.{le-ltb, lt-ltb}
 use mathlib.Core.Path.{ap, _∙_}
 use native.Mathlib.Omega.{arith}
 use Rattle.geometry.specs.Parts.{bankCount}
-use Rattle.machine.proofs.Laws.{is-so, unsound}
+use Rattle.judged.proofs.Laws.{is-so, unsound}
 use Rattle.face.specs.Face.{partNamed}
 use Rattle.face.proofs.Faces.{whole}
 use Rattle.asked.specs.Asked.{faceReadsCells}

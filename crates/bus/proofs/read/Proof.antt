@@ -1,5 +1,5 @@
 use mathlib.Core.Path.{sym, ap, _∙_}
-use Rattle.machine.proofs.Laws.{is-so, unsound}
+use Rattle.judged.proofs.Laws.{is-so, unsound}
 use Rattle.face.specs.Face.{Faced, packed}
 use Rattle.face.proofs.Faces.{well, whole, read-none, read-some}
 use Rattle.face.proofs.Kept.{read-stored}

@@ -2,7 +2,7 @@ use mathlib.Core.Path.{sym, _∙_}
 use borrow.Author.Needs.{needs}
 use Rattle.plain.proofs.EventLaws.{read-barred}
 use Rattle.plain.proofs.Ladder.{admitted}
-use Rattle.admitted.proofs.Laws.{answers}
+use Rattle.answers.proofs.Outcomes.{answers}
 use Rattle.machine.proofs.read.Statement.{statement}
 use Rattle.machine.proofs.read.Tie as tie
 

@@ -1,8 +1,8 @@
 use borrow.Author.Needs.{needs}
-use Rattle.machine.specs.Asked.{readsCells}
-use Rattle.machine.proofs.Laws.{unsound, is-so}
-use Rattle.machine.proofs.reads_cells.Statement.{statement}
-use Rattle.machine.proofs.reads_cells.Tie as tie
+use Rattle.judged.specs.Asked.{readsCells}
+use Rattle.judged.proofs.Laws.{unsound, is-so}
+use Rattle.judged.proofs.reads_cells.Statement.{statement}
+use Rattle.judged.proofs.reads_cells.Tie as tie
 
 pub reads-cells-spec : {M : Type 1} → statement M
 unfolding readsCells

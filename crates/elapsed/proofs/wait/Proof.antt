@@ -5,9 +5,10 @@ use Rattle.plain.proofs.EventLaws.{wait-clock, wait-passes}
 use Rattle.plain.proofs.Facts.{sound-clock, sound-operation}
 use Rattle.plain.proofs.Tools.{clash}
 use Rattle.inner.proofs.Free.{holds-free}
-use Rattle.admitted.proofs.Laws.{answers, leaves, passable}
-use Rattle.admitted.proofs.wait.Statement.{statement}
-use Rattle.admitted.proofs.wait.Tie as tie
+use Rattle.answers.proofs.Outcomes.{answers, leaves}
+use Rattle.elapsed.proofs.Passable.{passable}
+use Rattle.elapsed.proofs.wait.Statement.{statement}
+use Rattle.elapsed.proofs.wait.Tie as tie
 
 pub wait-spec : {M : Type 1} → statement M
 wait-spec =

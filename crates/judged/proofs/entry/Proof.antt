@@ -1,9 +1,9 @@
 use mathlib.Core.Path.{sym, _∙_}
 use borrow.Author.Needs.{needs}
 use Rattle.plain.proofs.Ladder.{entry-state, entry-cells, entry-admitted}
-use Rattle.machine.proofs.Laws.{unsound, is-so}
-use Rattle.machine.proofs.entry.Statement.{statement}
-use Rattle.machine.proofs.entry.Tie as tie
+use Rattle.judged.proofs.Laws.{unsound, is-so}
+use Rattle.judged.proofs.entry.Statement.{statement}
+use Rattle.judged.proofs.entry.Tie as tie
 
 pub entry-spec : {M : Type 1} → statement M
 entry-spec =

@@ -1,22 +1,15 @@
--- From what the code finds to what the plain machine's laws ask.
+-- From what the code finds to what the laws of time ask.
 use Prim.Native.Nat.{ℕ, _+_, _≤_}
-use mathlib.Core.Path.{_≡_, refl, sym, ap}
+use mathlib.Core.Path.{refl}
 use mathlib.Core.List.{List}
 use lib.ListN.{length}
 use Rattle.geometry.specs.declared.Part.{Part}
 use Rattle.plain.specs.declared.Device.{Device}
 use Rattle.plain.specs.Figures.{clockLimit}
 use Rattle.plain.specs.Lent.{lent}
-use Rattle.plain.specs.Machine.{Outcome, Fit}
+use Rattle.plain.specs.Machine.{Fit}
 use Rattle.plain.proofs.Facts.{sound-charge, sound-operation}
 use Rattle.moments.specs.Moments.{Passable}
-
--- the parts of an outcome, told backwards
-pub answers : {x o : Outcome} → x ≡ o → o .answer ≡ x .answer
-answers e = sym (ap (λ (y : Outcome). y .answer) e)
-
-pub leaves : {x o : Outcome} → x ≡ o → o .lent .cells ≡ x .lent .cells
-leaves e = sym (ap (λ (y : Outcome). y .lent .cells) e)
 
 -- a wait within the clock's limit is passable
 pub passable : (p : Part) (r : Device) (cells : List ℕ) (n : ℕ) → Fit p r (lent cells) → r .meter .clock + n ≤ clockLimit p → Passable p (r .meter) (r .operation) (length cells) n

@@ -3,9 +3,9 @@ use borrow.Author.Needs.{needs}
 use Rattle.plain.proofs.BegunSound.{begun-lies}
 use Rattle.plain.proofs.EventLaws.{cut-debris, cut-passes}
 use Rattle.plain.proofs.Facts.{sound-operation}
-use Rattle.admitted.proofs.Laws.{answers, leaves}
-use Rattle.admitted.proofs.cut.Statement.{statement}
-use Rattle.admitted.proofs.cut.Tie as tie
+use Rattle.answers.proofs.Outcomes.{answers, leaves}
+use Rattle.elapsed.proofs.cut.Statement.{statement}
+use Rattle.elapsed.proofs.cut.Tie as tie
 
 pub cut-spec : {M : Type 1} → statement M
 cut-spec =

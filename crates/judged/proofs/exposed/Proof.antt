@@ -1,8 +1,8 @@
 use borrow.Author.Needs.{needs}
-use Rattle.machine.specs.Asked.{exposedNow}
-use Rattle.machine.proofs.Laws.{unsound, is-so}
-use Rattle.machine.proofs.exposed.Statement.{statement}
-use Rattle.machine.proofs.exposed.Tie as tie
+use Rattle.judged.specs.Asked.{exposedNow}
+use Rattle.judged.proofs.Laws.{unsound, is-so}
+use Rattle.judged.proofs.exposed.Statement.{statement}
+use Rattle.judged.proofs.exposed.Tie as tie
 
 pub exposed-spec : {M : Type 1} → statement M
 unfolding exposedNow

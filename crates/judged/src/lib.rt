@@ -1,0 +1,50 @@
+// What begins with judging the record: the checks of every event, and what is asked without one.
+ghost use mathlib.Core.Path.{_≡_};
+ghost use Rattle.plain.specs.Lent.{lent};
+ghost use Rattle.plain.specs.Machine.{entry};
+ghost use Rattle.judged.specs.Asked.{exposedNow, readsCells};
+use cutting::Exposed;
+use geometry::Part;
+use plain::Device;
+use plain::Entry;
+use plain::Place;
+use plain::Refusal;
+
+// The checks that every event begins with: STATE, then CELLS.
+pub fn entry(part: Part, device: Device, cells: &[u16]) -> Entry
+    ensures { λ r. ⌜ r ≡ entry part device (lent (now (cells .entry))) ⌝ }
+{
+    if !soundness::is_sound(part, device) {
+        return Entry::Barred(Refusal::State);
+    }
+    if cells.len() != part.words() {
+        return Entry::Barred(Refusal::Cells);
+    }
+    Entry::Admitted
+}
+
+// Which block and which word an accepted cut would change if it came now; none for a record that is not sound.
+pub fn exposed(part: Part, device: Device) -> Exposed
+    ensures { λ r. ⌜ r ≡ exposedNow part device ⌝ }
+{
+    if !soundness::is_sound(part, device) {
+        return Exposed {
+            block: Place::Nowhere,
+            word: Place::Nowhere,
+        };
+    }
+    let operation = device.operation;
+    cutting::exposed(part, operation)
+}
+
+// Do reads in a bank give the cells and change nothing? Then an emulator may map the cells while it holds.
+pub fn reads_cells(part: Part, device: Device, bank: usize) -> bool
+    ensures { λ r. ⌜ r ≡ readsCells part device bank ⌝ }
+{
+    if !soundness::is_sound(part, device) {
+        return false;
+    }
+    let command = device.command;
+    let operation = device.operation;
+    mapping::gives_cells(part, command, operation, bank)
+}
