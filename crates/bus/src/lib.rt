@@ -1,7 +1,8 @@
-// Bus reads and writes of a device in any state: the record is taken out of its words, the machine answers, and what the event
-// may have changed is stored.
+// Bus reads and writes of a device in any state: the record is taken out of its words, the cycle tells what it does, and what
+// changes is stored.
 ghost use mathlib.Core.Path.{_≡_};
 ghost use Rattle.face.specs.Face.{packed, faceRead, faceWrite};
+use access::Sight;
 use plain::Refusal;
 
 pub fn read(part: u64, words: &mut [u64], cells: &[u16], address: usize) -> u64
@@ -12,12 +13,15 @@ pub fn read(part: u64, words: &mut [u64], cells: &[u16], address: usize) -> u64
         return calls::packed(Refusal::State, 0);
     }
     let device = image::device_of(words);
-    let answer = machine::read(calls::part_named(part), device, cells, address);
-    let after = answer.device;
-    let operation = after.operation;
-    storing::put_operation(words, operation);
-    let refusal = answer.refusal;
-    calls::packed(refusal, answer.word)
+    let sight = access::read(calls::part_named(part), device, cells, address);
+    match sight {
+        Sight::Refused(refusal) => calls::packed(refusal, 0),
+        Sight::Shown(seen) => {
+            let operation = seen.operation;
+            storing::put_toggles(words, operation);
+            calls::packed(Refusal::Done, seen.word)
+        }
+    }
 }
 
 pub fn write(part: u64, words: &mut [u64], cells: &[u16], address: usize, word: u16) -> u64
@@ -28,9 +32,6 @@ pub fn write(part: u64, words: &mut [u64], cells: &[u16], address: usize, word: 
         return answers::number_of(Refusal::State);
     }
     let device = image::device_of(words);
-    let answer = machine::write(calls::part_named(part), device, cells, address, word);
-    let after = answer.device;
-    storing::put(words, after);
-    let refusal = answer.refusal;
-    answers::number_of(refusal)
+    let effect = access::write(calls::part_named(part), device, cells, address, word);
+    effects::put_effect(words, effect)
 }

@@ -1,54 +1,71 @@
-// A wait or a cut once its record is sound and its cells are whole: its own check, and what it does.
+// A lapse of time or of power with all its checks: a wait is told by what it moves, a cut by whether it came. Who calls makes
+// of it the record, or the words of one.
 ghost use mathlib.Core.Path.{_≡_};
 ghost use Rattle.plain.specs.Lent.{lent};
 ghost use Rattle.plain.specs.Machine.{Fit, waitEvent, cutEvent};
+ghost use Rattle.elapsed.specs.Lapses.{lapsed, cutBy};
 use geometry::Part;
-use plain::Answer;
+use moments::Moved;
 use plain::Device;
+use plain::Entry;
 use plain::Refusal;
 use plain::figures;
 
-pub fn wait(part: Part, device: Device, cells: &mut [u16], microseconds: u64) -> Answer
+pub enum Lapse {
+    Refused(Refusal),
+    Passed(Moved),
+}
+
+pub fn wait(part: Part, device: Device, cells: &mut [u16], microseconds: u64) -> Lapse
+    ensures { λ r. ⌜ lapsed device r ≡ waitEvent part device (lent (now (cells .entry))) microseconds .answer ⌝ }
+    ensures { λ r. ⌜ now (cells .exit) ≡ waitEvent part device (lent (now (cells .entry))) microseconds .lent .cells ⌝ }
+{
+    let entry = judged::entry(part, device, cells);
+    match entry {
+        Entry::Barred(refusal) => Lapse::Refused(refusal),
+        Entry::Admitted => admitted_wait(part, device, cells, microseconds),
+    }
+}
+
+// Once the record is sound and the cells are whole.
+fn admitted_wait(part: Part, device: Device, cells: &mut [u16], microseconds: u64) -> Lapse
     requires { ⌜ Fit part device (lent (now cells)) ⌝ }
-    ensures { λ r. ⌜ r ≡ waitEvent part device (lent (now (cells .entry))) microseconds .answer ⌝ }
+    ensures { λ r. ⌜ lapsed device r ≡ waitEvent part device (lent (now (cells .entry))) microseconds .answer ⌝ }
     ensures { λ r. ⌜ now (cells .exit) ≡ waitEvent part device (lent (now (cells .entry))) microseconds .lent .cells ⌝ }
 {
     let meter = device.meter;
     // The clock is at most its limit, so the difference is there; the sum might not be.
     if figures::clock_limit(part) - meter.clock < microseconds {
-        return answers::refused(Refusal::Clock, device);
+        return Lapse::Refused(Refusal::Clock);
     }
-    let command = device.command;
     let operation = device.operation;
     let bits = device.bits;
     if inner::holds_protected(part, bits, operations::running_of(operation)) {
-        return answers::refused(Refusal::Inner, device);
+        return Lapse::Refused(Refusal::Inner);
     }
-    let moved = waiting::pass(part, meter, operation, cells, microseconds);
-    let spent = moved.meter;
-    let after = moved.operation;
-    answers::done(
-        0,
-        Device {
-            meter: spent,
-            command: command,
-            operation: after,
-            bits: bits,
-        },
-    )
+    Lapse::Passed(waiting::pass(part, meter, operation, cells, microseconds))
 }
 
-pub fn cut(part: Part, device: Device, cells: &mut [u16], debris: &[u16]) -> Answer
+pub fn cut(part: Part, device: Device, cells: &mut [u16], debris: &[u16]) -> Entry
+    ensures { λ r. ⌜ cutBy device r ≡ cutEvent part device (lent (now (cells .entry))) (now (debris .entry)) .answer ⌝ }
+    ensures { λ r. ⌜ now (cells .exit) ≡ cutEvent part device (lent (now (cells .entry))) (now (debris .entry)) .lent .cells ⌝ }
+{
+    let entry = judged::entry(part, device, cells);
+    match entry {
+        Entry::Barred(refusal) => Entry::Barred(refusal),
+        Entry::Admitted => admitted_cut(part, device, cells, debris),
+    }
+}
+
+fn admitted_cut(part: Part, device: Device, cells: &mut [u16], debris: &[u16]) -> Entry
     requires { ⌜ Fit part device (lent (now cells)) ⌝ }
-    ensures { λ r. ⌜ r ≡ cutEvent part device (lent (now (cells .entry))) (now (debris .entry)) .answer ⌝ }
+    ensures { λ r. ⌜ cutBy device r ≡ cutEvent part device (lent (now (cells .entry))) (now (debris .entry)) .answer ⌝ }
     ensures { λ r. ⌜ now (cells .exit) ≡ cutEvent part device (lent (now (cells .entry))) (now (debris .entry)) .lent .cells ⌝ }
 {
     let operation = device.operation;
     if debris.len() < cutting::debris_needed(part, operation) {
-        return answers::refused(Refusal::Debris, device);
+        return Entry::Barred(Refusal::Debris);
     }
     cutting::cut_cells(part, operation, cells, debris);
-    let meter = device.meter;
-    let bits = device.bits;
-    answers::done(0, answers::cut_device(meter, bits))
+    Entry::Admitted
 }

@@ -8,6 +8,7 @@ use lib.Dec.{lit≤}
 use lib.ListN.{length}
 use Rattle.plain.specs.declared.Refusal.{Refusal}
 use Rattle.plain.specs.declared.Refusal.the-variants.{Done, State, Cells, Address, Clock, Debris, Busy, Sequence, Bank, Protected, Suspended, Locked, Inner}
+use Rattle.plain.specs.declared.Answer.{Answer}
 use Rattle.plain.specs.declared.Entry.the-variants.{Admitted, Barred}
 use Rattle.plain.specs.Lent.{lent}
 use Rattle.plain.specs.Refusals.{number}
@@ -35,6 +36,11 @@ number-small Protected = lit≤ tt
 number-small Suspended = lit≤ tt
 number-small Locked = lit≤ tt
 number-small Inner = lit≤ tt
+
+-- the face's answer, from that of the plain machine
+pub told : (f : Faced) (o : Outcome) (y : Answer) → f ≡ shown o → y ≡ o .answer → f ≡ answered (number (y .refusal)) (y .word) (imageOf (y .device)) (o .lent .cells)
+told f o y s e =
+    s ∙ ap (λ (x : Answer). answered (number (x .refusal)) (x .word) (imageOf (x .device)) (o .lent .cells)) (sym e)
 
 -- an event that is admitted: the words stand for a record, it is sound, and the cells are whole
 pub record Enters (part : ℕ) (i cells : List ℕ) : Type 0 where

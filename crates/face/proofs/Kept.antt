@@ -1,47 +1,34 @@
--- What an event leaves of the record: a read its meter, register and protection bits, a wait its register and those bits.
-use Prim.Native.Nat.{ℕ, _+_}
-use mathlib.Core.Path.{_≡_, refl, sym, ap, _∙_}
+-- A read stores nothing but toggles.
+use Prim.Native.Nat.{ℕ}
+use mathlib.Core.Path.{_≡_, ap}
 use mathlib.Core.Bool.{true, not}
 use mathlib.Core.List.{List}
-use lib.Dec.{leb, ltb}
+use lib.Dec.{ltb}
 use Rattle.geometry.specs.declared.Part.{Part}
 use Rattle.geometry.specs.Parts.{wordCount}
-use Rattle.plain.specs.declared.Refusal.the-variants.{Address, Clock}
+use Rattle.plain.specs.declared.Refusal.the-variants.{Done, Address}
+use Rattle.plain.specs.declared.Operation.{Operation}
 use Rattle.plain.specs.declared.Device.{Device}
-use Rattle.plain.specs.Figures.{clockLimit}
+use Rattle.plain.specs.declared.Answer.{Answer}
 use Rattle.plain.specs.Lent.{Lent}
-use Rattle.plain.specs.Record.{device}
-use Rattle.plain.specs.Time.{someEndProtected}
-use Rattle.plain.specs.Machine.{Outcome, now, readTaken, waitTaken, readEvent, waitEvent}
-use Rattle.plain.proofs.Tools.{by-test}
+use Rattle.plain.specs.Record.{device, answer}
+use Rattle.plain.specs.Machine.{Outcome, readTaken, readEvent}
 use Rattle.plain.proofs.Ladder.{by-ladder}
 use Rattle.layout.specs.Image.{imageOf, wellFormed, deviceOf}
-use Rattle.layout.specs.Stored.{withMeter, withOperation}
-use Rattle.layout.proofs.Stored.{stored-operation, stored-passed}
+use Rattle.layout.specs.Stored.{withToggles}
+use Rattle.layout.proofs.Stored.{stored-toggles}
+use Rattle.layout.proofs.Toggles.{Retoggled, same, look-flips}
 
 module _ (p : Part) (r : Device) (l : Lent) where
-  abbrev ReadLeaves : Outcome → Type 0
-  ReadLeaves o = o .answer .device ≡ device (r .meter) (r .command) (o .answer .device .operation) (r .bits)
-
-  read-leaves : (a : ℕ) → ReadLeaves (readEvent p r l a)
+  read-flips : (a : ℕ) → Retoggled (r .operation) (readEvent p r l a .answer .device .operation)
   unfolding readEvent
-  read-leaves a =
-      by-ladder p r l (not (ltb a (wordCount p))) Address (readTaken p r l a) ReadLeaves (λ s. refl) refl (λ f. refl) (λ f t. refl)
+  read-flips a =
+      by-ladder p r l (not (ltb a (wordCount p))) Address (readTaken p r l a) (λ (o : Outcome). Retoggled (r .operation) (o .answer .device .operation))
+      (λ s. same (r .operation)) (same (r .operation)) (λ f. same (r .operation)) (λ f t. look-flips p (r .bits) (r .command) (r .operation) l a)
 
-  abbrev WaitLeaves : Outcome → Type 0
-  WaitLeaves o = o .answer .device ≡ device (o .answer .device .meter) (r .command) (o .answer .device .operation) (r .bits)
-
-  wait-leaves : (n : ℕ) → WaitLeaves (waitEvent p r l n)
-  unfolding waitEvent
-  wait-leaves n =
-      by-ladder p r l (not (leb (r .meter .clock + n) (clockLimit p))) Clock (waitTaken p r l n) WaitLeaves (λ s. refl) refl (λ f. refl)
-      (λ f t. by-test WaitLeaves (someEndProtected p (r .bits) n (now r l)) (λ x. refl) (λ x. refl))
-
-module _ (p : Part) (i : List ℕ) (well : wellFormed i ≡ true) (l : Lent) where
-  pub read-stored : (a : ℕ) → withOperation i (readEvent p (deviceOf i) l a .answer .device .operation) ≡ imageOf (readEvent p (deviceOf i) l a .answer .device)
-  read-stored a = stored-operation i well _ ∙ ap imageOf (sym (read-leaves p (deviceOf i) l a))
-
-  pub wait-stored : (n : ℕ)
-      → withOperation (withMeter i (waitEvent p (deviceOf i) l n .answer .device .meter)) (waitEvent p (deviceOf i) l n .answer .device .operation)
-      ≡ imageOf (waitEvent p (deviceOf i) l n .answer .device)
-  wait-stored n = stored-passed i well _ _ ∙ ap imageOf (sym (wait-leaves p (deviceOf i) l n))
+-- of what a read shows, its toggles stored give the record afterwards
+pub read-stored : (p : Part) (i : List ℕ) (l : Lent) (a w : ℕ) (o : Operation) → wellFormed i ≡ true
+    → answer Done w (device (deviceOf i .meter) (deviceOf i .command) o (deviceOf i .bits)) ≡ readEvent p (deviceOf i) l a .answer
+    → withToggles i o ≡ imageOf (device (deviceOf i .meter) (deviceOf i .command) o (deviceOf i .bits))
+read-stored p i l a w o well e =
+    stored-toggles i well o (rw (ap (λ (y : Answer). y .device .operation) e) (read-flips p (deviceOf i) l a))

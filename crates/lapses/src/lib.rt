@@ -1,7 +1,9 @@
-// A lapse of time, and one of power, of a device in any state: the record is taken out of its words, the machine answers, and
-// what the event may have changed is stored.
+// A lapse of time, and one of power, of a device in any state: the record is taken out of its words, the lapse tells what it
+// does, and what changes is stored.
 ghost use mathlib.Core.Path.{_≡_};
 ghost use Rattle.face.specs.Face.{faceWait, faceCut};
+use elapsed::Lapse;
+use plain::Entry;
 use plain::Refusal;
 
 pub fn wait(part: u64, words: &mut [u64], cells: &mut [u16], microseconds: u64) -> u64
@@ -13,14 +15,14 @@ pub fn wait(part: u64, words: &mut [u64], cells: &mut [u16], microseconds: u64) 
         return answers::number_of(Refusal::State);
     }
     let device = image::device_of(words);
-    let answer = machine::wait(calls::part_named(part), device, cells, microseconds);
-    let after = answer.device;
-    let meter = after.meter;
-    let operation = after.operation;
-    storing::put_meter(words, meter);
-    storing::put_operation(words, operation);
-    let refusal = answer.refusal;
-    answers::number_of(refusal)
+    let lapse = elapsed::wait(calls::part_named(part), device, cells, microseconds);
+    match lapse {
+        Lapse::Refused(refusal) => answers::number_of(refusal),
+        Lapse::Passed(moved) => {
+            effects::put_moved(words, moved);
+            answers::number_of(Refusal::Done)
+        }
+    }
 }
 
 pub fn cut(part: u64, words: &mut [u64], cells: &mut [u16], debris: &[u16]) -> u64
@@ -32,9 +34,12 @@ pub fn cut(part: u64, words: &mut [u64], cells: &mut [u16], debris: &[u16]) -> u
         return answers::number_of(Refusal::State);
     }
     let device = image::device_of(words);
-    let answer = machine::cut(calls::part_named(part), device, cells, debris);
-    let after = answer.device;
-    storing::put(words, after);
-    let refusal = answer.refusal;
-    answers::number_of(refusal)
+    let entry = elapsed::cut(calls::part_named(part), device, cells, debris);
+    match entry {
+        Entry::Barred(refusal) => answers::number_of(refusal),
+        Entry::Admitted => {
+            effects::put_cut(words, device.bits);
+            answers::number_of(Refusal::Done)
+        }
+    }
 }

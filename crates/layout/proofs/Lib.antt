@@ -5,3 +5,4 @@ pub mod Round
 pub mod Canonical
 pub mod Idle
 pub mod Stored
+pub mod Toggles

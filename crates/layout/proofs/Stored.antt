@@ -1,18 +1,23 @@
 -- What is stored over words that stand for a record gives the image of the record with that part; over any words, the whole.
 use Prim.Native.Nat.{ℕ}
-use mathlib.Core.Path.{_≡_, refl, subst}
+use mathlib.Core.Path.{_≡_, refl, ap, subst}
 use mathlib.Core.Bool.{true}
-use mathlib.Core.List.{List}
+use mathlib.Core.List.{List, _∷_, _++_}
 use lib.ListN.{length, length-set}
 use Rattle.blocks.specs.declared.Blocks.{Blocks}
 use Rattle.meter.specs.declared.Meter.{Meter}
+use Rattle.protection.specs.declared.Protection.{Protection}
 use Rattle.plain.specs.declared.Operation.{Operation}
 use Rattle.plain.specs.declared.Command.{Command}
 use Rattle.plain.specs.declared.Device.{Device}
-use Rattle.plain.specs.Record.{device}
-use Rattle.layout.specs.Places.{recordWords}
-use Rattle.layout.specs.Image.{imageOf, wordsFrom, wellFormed, deviceOf}
-use Rattle.layout.specs.Stored.{withMeter, withCommand, withBlocks, withErase, withProgram, withOperation, withBits, withRecord}
+use Rattle.plain.specs.Record.{device, program, erase}
+use Rattle.layout.specs.declared.CommandWords.{CommandWords}
+use Rattle.layout.specs.declared.OperationParts.{OperationParts}
+use Rattle.layout.specs.Places.{layoutNumber, recordWords}
+use Rattle.layout.specs.Commands.{commandWords}
+use Rattle.layout.specs.Operations.{parts, operationParts}
+use Rattle.layout.specs.Image.{meterSection, commandSection, operationSection, bitsSection, imageOf, wordsFrom, wellFormed, deviceOf}
+use Rattle.layout.specs.Stored.{withMeter, withCommand, withBlocks, withErase, withProgram, withOperation, withToggles, withBits, withRecord}
 use Rattle.layout.proofs.Words.{section-whole}
 use Rattle.layout.proofs.Canonical.{canonical}
 
@@ -23,11 +28,29 @@ module _ (i : List ℕ) where
   unfolding withMeter
   long-meter m = simp length-set
 
+  pub long-command : (c : Command) → length (withCommand i c) ≡ length i
+  unfolding withCommand
+  long-command c = simp length-set
+
+  pub long-operation : (o : Operation) → length (withOperation i o) ≡ length i
+  unfolding withOperation withErase withBlocks withProgram
+  long-operation o = simp length-set
+
   pub long-blocks : (n : ℕ) (s : Blocks) → length (withBlocks i n s) ≡ length i
   unfolding withBlocks
   long-blocks n s = simp length-set
 
 -- ---- over words that stand for a record
+
+-- an operation's parts with the toggles of another's
+abbrev pub retoggled : OperationParts → OperationParts → OperationParts
+retoggled x y =
+    parts (x .number) (erase (x .erase .list) (x .erase .hand) (x .erase .left) (y .erase .dq6) (y .erase .dq2))
+    (program (x .program .writes) (x .program .left) (y .program .dq6))
+
+abbrev image : Meter → CommandWords → OperationParts → Protection → List ℕ
+image m c o b =
+    layoutNumber ∷ (meterSection m ++ (commandSection c ++ (operationSection o ++ bitsSection b)))
 
 module _ (i : List ℕ) (well : wellFormed i ≡ true) where
   over : (store : List ℕ → List ℕ) (r : Device) → store (imageOf (deviceOf i)) ≡ imageOf r → store i ≡ imageOf r
@@ -41,14 +64,32 @@ module _ (i : List ℕ) (well : wellFormed i ≡ true) where
   unfolding imageOf withCommand
   stored-command c = over (λ z. withCommand z c) (device (deviceOf i .meter) c (deviceOf i .operation) (deviceOf i .bits)) refl
 
-  -- what a read may change, and what a wait may
-  pub stored-operation : (o : Operation) → withOperation i o ≡ imageOf (device (deviceOf i .meter) (deviceOf i .command) o (deviceOf i .bits))
-  unfolding imageOf withOperation withErase withBlocks withProgram
-  stored-operation o = over (λ z. withOperation z o) (device (deviceOf i .meter) (deviceOf i .command) o (deviceOf i .bits)) refl
+  -- what a read may change,
+  pub stored-toggles : (o : Operation) → retoggled (operationParts (deviceOf i .operation)) (operationParts o) ≡ operationParts o
+      → withToggles i o ≡ imageOf (device (deviceOf i .meter) (deviceOf i .command) o (deviceOf i .bits))
+  unfolding imageOf withToggles
+  stored-toggles o e =
+      over (λ z. withToggles z o) (device (deviceOf i .meter) (deviceOf i .command) o (deviceOf i .bits))
+      (ap (λ (x : OperationParts). image (deviceOf i .meter) (commandWords (deviceOf i .command)) x (deviceOf i .bits)) e)
 
+  -- a wait,
   pub stored-passed : (m : Meter) (o : Operation) → withOperation (withMeter i m) o ≡ imageOf (device m (deviceOf i .command) o (deviceOf i .bits))
   unfolding imageOf withMeter withOperation withErase withBlocks withProgram
   stored-passed m o = over (λ z. withOperation (withMeter z m) o) (device m (deviceOf i .command) o (deviceOf i .bits)) refl
+
+  -- a write that starts an operation, or one that protects,
+  pub stored-started : (c : Command) (o : Operation) → withOperation (withCommand i c) o ≡ imageOf (device (deviceOf i .meter) c o (deviceOf i .bits))
+  unfolding imageOf withCommand withOperation withErase withBlocks withProgram
+  stored-started c o = over (λ z. withOperation (withCommand z c) o) (device (deviceOf i .meter) c o (deviceOf i .bits)) refl
+
+  pub stored-protected : (c : Command) (b : Protection) → withBits (withCommand i c) b ≡ imageOf (device (deviceOf i .meter) c (deviceOf i .operation) b)
+  unfolding imageOf withCommand withBits withBlocks
+  stored-protected c b = over (λ z. withBits (withCommand z c) b) (device (deviceOf i .meter) c (deviceOf i .operation) b) refl
+
+  -- and a cut
+  pub stored-cut : (c : Command) (o : Operation) (b : Protection) → withBits (withOperation (withCommand i c) o) b ≡ imageOf (device (deviceOf i .meter) c o b)
+  unfolding imageOf withCommand withOperation withErase withBlocks withProgram withBits
+  stored-cut c o b = over (λ z. withBits (withOperation (withCommand z c) o) b) (device (deviceOf i .meter) c o b) refl
 
 -- ---- over any words
 

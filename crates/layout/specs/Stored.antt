@@ -43,6 +43,13 @@ withParts i o = set (withProgram (withErase i (o .erase)) (o .program)) operatio
 unfoldable pub withOperation : List ℕ → Operation → List ℕ
 withOperation i o = withParts i (operationParts o)
 
+-- the toggles of what runs or is suspended, and nothing else
+abbrev pub withTogglesOf : List ℕ → OperationParts → List ℕ
+withTogglesOf i o = set (set i togglesAt (toggles (o .erase .dq6) (o .erase .dq2))) toggleAt (flag (o .program .dq6))
+
+unfoldable pub withToggles : List ℕ → Operation → List ℕ
+withToggles i o = withTogglesOf i (operationParts o)
+
 unfoldable pub withBits : List ℕ → Protection → List ℕ
 withBits i b = set (withBlocks (withBlocks i dybAt (b .dyb)) ppbAt (b .ppb)) lockAt (flag (b .lock))
 

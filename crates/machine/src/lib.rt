@@ -2,15 +2,19 @@
 // word, wait and lent length is answered; the caller need have checked nothing.
 ghost use mathlib.Core.Path.{_≡_};
 ghost use Rattle.plain.specs.Lent.{lent};
-ghost use Rattle.plain.specs.Record.{fresh};
+ghost use Rattle.plain.specs.Record.{fresh, device};
 ghost use Rattle.plain.specs.Sound.{sound};
 ghost use Rattle.plain.specs.Machine.{readEvent, writeEvent, waitEvent, cutEvent};
 ghost use Rattle.judged.specs.Asked.{exposedNow, readsCells};
+use access::Sight;
 use cutting::Exposed;
+use elapsed::Lapse;
 use geometry::Part;
+use meter::Meter;
 use plain::Answer;
 use plain::Device;
 use plain::Entry;
+use plain::Operation;
 
 // "A fresh device has clock 0, charge 0, no operation, no protection, any cells."
 pub fn fresh() -> Device
@@ -28,10 +32,13 @@ pub fn is_sound(part: Part, device: Device) -> bool
 pub fn read(part: Part, device: Device, cells: &[u16], address: usize) -> Answer
     ensures { λ r. ⌜ r ≡ readEvent part device (lent (now (cells .entry))) address .answer ⌝ }
 {
-    let entry = judged::entry(part, device, cells);
-    match entry {
-        Entry::Barred(refusal) => answers::refused(refusal, device),
-        Entry::Admitted => admitted::read(part, device, cells, address),
+    let sight = access::read(part, device, cells, address);
+    match sight {
+        Sight::Refused(refusal) => answers::refused(refusal, device),
+        Sight::Shown(seen) => {
+            let operation = seen.operation;
+            answers::done(seen.word, moved(device, device.meter, operation))
+        }
     }
 }
 
@@ -39,21 +46,21 @@ pub fn read(part: Part, device: Device, cells: &[u16], address: usize) -> Answer
 pub fn write(part: Part, device: Device, cells: &[u16], address: usize, word: u16) -> Answer
     ensures { λ r. ⌜ r ≡ writeEvent part device (lent (now (cells .entry))) address word .answer ⌝ }
 {
-    let entry = judged::entry(part, device, cells);
-    match entry {
-        Entry::Barred(refusal) => answers::refused(refusal, device),
-        Entry::Admitted => admitted::write(part, device, address, word),
-    }
+    let effect = access::write(part, device, cells, address, word);
+    register::effected(device, effect)
 }
 
 pub fn wait(part: Part, device: Device, cells: &mut [u16], microseconds: u64) -> Answer
     ensures { λ r. ⌜ r ≡ waitEvent part device (lent (now (cells .entry))) microseconds .answer ⌝ }
     ensures { λ r. ⌜ now (cells .exit) ≡ waitEvent part device (lent (now (cells .entry))) microseconds .lent .cells ⌝ }
 {
-    let entry = judged::entry(part, device, cells);
-    match entry {
-        Entry::Barred(refusal) => answers::refused(refusal, device),
-        Entry::Admitted => elapsed::wait(part, device, cells, microseconds),
+    let lapse = elapsed::wait(part, device, cells, microseconds);
+    match lapse {
+        Lapse::Refused(refusal) => answers::refused(refusal, device),
+        Lapse::Passed(after) => {
+            let operation = after.operation;
+            answers::done(0, moved(device, after.meter, operation))
+        }
     }
 }
 
@@ -61,10 +68,24 @@ pub fn cut(part: Part, device: Device, cells: &mut [u16], debris: &[u16]) -> Ans
     ensures { λ r. ⌜ r ≡ cutEvent part device (lent (now (cells .entry))) (now (debris .entry)) .answer ⌝ }
     ensures { λ r. ⌜ now (cells .exit) ≡ cutEvent part device (lent (now (cells .entry))) (now (debris .entry)) .lent .cells ⌝ }
 {
-    let entry = judged::entry(part, device, cells);
+    let entry = elapsed::cut(part, device, cells, debris);
     match entry {
         Entry::Barred(refusal) => answers::refused(refusal, device),
-        Entry::Admitted => elapsed::cut(part, device, cells, debris),
+        Entry::Admitted => answers::done(0, answers::cut_device(device.meter, device.bits)),
+    }
+}
+
+// The record with another meter and another operation: what a read or a wait may change of it.
+fn moved(from: Device, meter: Meter, operation: Operation) -> Device
+    ensures { λ r. ⌜ r ≡ device meter (from .command) operation (from .bits) ⌝ }
+{
+    let command = from.command;
+    let bits = from.bits;
+    Device {
+        meter: meter,
+        command: command,
+        operation: operation,
+        bits: bits,
     }
 }
 

@@ -3,8 +3,8 @@ ghost use mathlib.Core.Path.{_≡_};
 ghost use Prim.Native.Nat.{_+_, _≤_};
 ghost use lib.ListN.{length};
 ghost use Rattle.layout.specs.Places.{recordWords};
-ghost use Rattle.layout.specs.Image.{imageOf};
-ghost use Rattle.layout.specs.Stored.{withMeter, withCommand, withBlocks, withErase, withProgram, withOperation, withBits};
+ghost use Rattle.layout.specs.Image.{toggles, imageOf};
+ghost use Rattle.layout.specs.Stored.{withMeter, withCommand, withBlocks, withErase, withProgram, withOperation, withToggles, withBits};
 use blocks::Blocks;
 use meter::Meter;
 use numbers::commands;
@@ -50,7 +50,14 @@ fn put_erase(words: &mut [u64], erase: Erase)
     put_blocks(words, layout::LIST_AT, erase.list);
     words[layout::HAND_AT] = erase.hand as u64;
     words[layout::ERASE_LEFT_AT] = erase.left;
-    words[layout::TOGGLES_AT] = erase.dq6 as u64 + 2 * (erase.dq2 as u64);
+    words[layout::TOGGLES_AT] = toggles(erase);
+}
+
+// "DQ6 + 2 * DQ2"
+fn toggles(erase: Erase) -> u64
+    ensures { λ r. ⌜ r ≡ toggles (erase .dq6) (erase .dq2) ⌝ }
+{
+    erase.dq6 as u64 + 2 * (erase.dq2 as u64)
 }
 
 fn put_program(words: &mut [u64], program: Program)
@@ -63,7 +70,17 @@ fn put_program(words: &mut [u64], program: Program)
     words[layout::TOGGLE_AT] = program.dq6 as u64;
 }
 
-fn put_bits(words: &mut [u64], bits: Protection)
+// What a read changes: the toggles of the operation, where they stand.
+pub fn put_toggles(words: &mut [u64], operation: Operation)
+    requires { ⌜ length (now words) ≡ recordWords ⌝ }
+    ensures { λ _. ⌜ now (words .exit) ≡ withToggles (now (words .entry)) operation ⌝ }
+{
+    let told = operations::parts_of(operation);
+    words[layout::TOGGLES_AT] = toggles(told.erase);
+    words[layout::TOGGLE_AT] = told.program.dq6 as u64;
+}
+
+pub fn put_bits(words: &mut [u64], bits: Protection)
     requires { ⌜ length (now words) ≡ recordWords ⌝ }
     ensures { λ _. ⌜ now (words .exit) ≡ withBits (now (words .entry)) bits ⌝ }
 {

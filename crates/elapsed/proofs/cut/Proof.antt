@@ -1,31 +1,24 @@
-use mathlib.Core.Path.{refl, _∙_}
+use mathlib.Core.Path.{sym, _∙_}
 use borrow.Author.Needs.{needs}
-use Rattle.plain.proofs.BegunSound.{begun-lies}
-use Rattle.plain.proofs.EventLaws.{cut-debris, cut-passes}
-use Rattle.plain.proofs.Facts.{sound-operation}
+use Rattle.plain.proofs.EventLaws.{cut-barred}
+use Rattle.plain.proofs.Ladder.{admitted}
 use Rattle.answers.proofs.Outcomes.{answers, leaves}
+use Rattle.elapsed.specs.Lapses.{cutBy}
 use Rattle.elapsed.proofs.cut.Statement.{statement}
 use Rattle.elapsed.proofs.cut.Tie as tie
 
 pub cut-spec : {M : Type 1} → statement M
+unfolding cutBy
 cut-spec =
     tie.close
     (tie.spec
-    (λ c κs. search needs)  -- debris-needed-requires
-    (λ c κs. search needs)  -- refused-requires
-    (λ c.
-    let same = cut-debris _ _ _ _ (c .before .before .before .before .before .pre) (rw (c .before .before .debris-needed .ensures) at (c .before .if1 .taken)) in
-    (c .refused .ensures ∙ answers same, leaves same))  -- returns
-    (λ c κs.
-    let fit = c .before .before .before .before .before .pre in
-    record {
-      whole = fit .whole;
-      enough = rw (c .before .before .debris-needed .ensures) at (c .before .if1 .left);
-      inside = begun-lies _ _ _ (sound-operation _ _ (fit .sound) _ refl);
-    })  -- cut-cells-requires
-    (λ c κs. search needs)  -- cut-device-requires
-    (λ c κs. search needs)  -- done-requires
+    (λ c κs. search needs)  -- entry-requires
+    (λ c. search needs)  -- enum-known-entry
+    (λ c. search needs)  -- enum-told
+    (λ c κs. admitted _ _ _ (sym (c .before .before .before .entry .ensures) ∙ c .before .enum-told .given .1))  -- admitted-cut-requires
     (λ c. search needs)  -- same-length
     (λ c.
-    let same = cut-passes _ _ _ _ (c .before .before .before .before .before .before .before .before .before .before .before .before .pre) (rw (c .before .before .before .before .before .before .before .before .before .debris-needed .ensures) at (c .before .before .before .before .before .before .before .before .if1 .left)) in
-    (rw (c .done .ensures, c .before .cut-device .ensures) (answers same), c .before .before .before .before .before .before .cut-cells .ensures ∙ leaves same)))  -- returns-2
+    let same = cut-barred _ _ _ _ _ (sym (c .before .before .before .entry .ensures) ∙ c .before .entry2 .given .1) in
+    (answers same, leaves same))  -- returns
+    (λ c. search needs)  -- same-length-2
+    (λ c. search needs))  -- returns-2

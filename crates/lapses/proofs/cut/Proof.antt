@@ -1,24 +1,41 @@
 use mathlib.Core.Path.{sym, ap, _∙_}
-use Rattle.judged.proofs.Laws.{is-so, unsound}
-use Rattle.face.specs.Face.{Faced}
-use Rattle.face.proofs.Faces.{well, whole, cut-none, cut-some}
 use borrow.Author.Needs.{needs}
+use Rattle.judged.proofs.Laws.{is-so, unsound}
+use Rattle.elapsed.specs.Lapses.{cutBy}
+use Rattle.layout.proofs.Canonical.{canonical}
+use Rattle.face.specs.Face.{Faced}
+use Rattle.face.proofs.Faces.{told, well, whole, cut-none, cut-some}
 use Rattle.lapses.proofs.cut.Statement.{statement}
 use Rattle.lapses.proofs.cut.Tie as tie
 
 pub cut-spec : {M : Type 1} → statement M
+unfolding cutBy
 cut-spec =
     tie.close
     (tie.spec
     (λ c κs. search needs)  -- stands-requires
     (λ c κs. search needs)  -- number-of-requires
     (λ c. search needs)  -- same-length
-    (λ c. let same = cut-none _ _ _ _ (unsound _ _ (c .before .before .stands .ensures) (c .before .if1 .taken)) in (c .number-of .ensures ∙ sym (ap (λ (f : Faced). f .refusal) same), (sym (ap (λ (f : Faced). f .image) same), sym (ap (λ (f : Faced). f .cells) same))))  -- returns
+    (λ c.
+    let same = cut-none _ _ _ _ (unsound _ _ (c .before .before .stands .ensures) (c .before .if1 .taken)) in
+    (c .number-of .ensures ∙ sym (ap (λ (f : Faced). f .refusal) same), (sym (ap (λ (f : Faced). f .image) same), sym (ap (λ (f : Faced). f .cells) same))))  -- returns
     (λ c κs. whole _ _ (is-so _ _ (c .before .before .stands .ensures) (c .before .if1 .left)))  -- device-of-requires
     (λ c κs. search needs)  -- part-named-requires
     (λ c κs. search needs)  -- cut-requires
-    (λ c κs. whole _ _ (is-so _ _ (c .before .before .before .before .before .before .before .before .before .before .stands .ensures) (c .before .before .before .before .before .before .before .before .before .if1 .left)))  -- put-requires
+    (λ c. search needs)  -- enum-known-entry
     (λ c κs. search needs)  -- number-of-requires-2
+    (λ c. search needs)  -- enum-told
+    (λ c κs. well _ _ (is-so _ _ (c .before .before .before .before .before .before .before .before .before .before .before .stands .ensures) (c .before .before .before .before .before .before .before .before .before .before .if1 .left)))  -- put-cut-requires
+    (λ c κs. search needs)  -- number-of-requires-3
     (λ c. search needs)  -- same-length-2
     (λ c. search needs)  -- same-length-3
-    (λ c. let same = cut-some _ _ _ _ (is-so _ _ (c .before .before .before .before .before .before .before .before .before .before .before .before .before .before .stands .ensures) (c .before .before .before .before .before .before .before .before .before .before .before .before .before .if1 .left)) in (rw (c .number-of2 .ensures, c .before .before .before .before .before .before .before .before .cut .ensures .0, c .before .before .before .before .before .before .before .before .before .before .part-named .ensures, c .before .before .before .before .before .before .before .before .before .before .before .device-of .ensures) (sym (ap (λ (f : Faced). f .refusal) same)), (rw (c .before .before .before .put .ensures, c .before .before .before .before .before .before .before .before .cut .ensures .0, c .before .before .before .before .before .before .before .before .before .before .part-named .ensures, c .before .before .before .before .before .before .before .before .before .before .before .device-of .ensures) (sym (ap (λ (f : Faced). f .image) same)), rw (c .before .before .before .before .before .before .before .before .cut .ensures .1, c .before .before .before .before .before .before .before .before .before .before .part-named .ensures, c .before .before .before .before .before .before .before .before .before .before .before .device-of .ensures) (sym (ap (λ (f : Faced). f .cells) same))))))  -- returns-2
+    (λ c.
+    let so = is-so _ _ (c .before .before .before .before .before .before .before .before .before .before .before .before .stands .ensures) (c .before .before .before .before .before .before .before .before .before .before .before .if1 .left) in
+    let same = told _ _ _ (cut-some _ _ _ _ so) (rw (c .before .before .entry .given .1, c .before .before .before .before .before .before .before .before .part-named .ensures, c .before .before .before .before .before .before .before .before .before .device-of .ensures) at (c .before .before .before .before .before .before .cut .ensures .0)) in
+    (c .number-of2 .ensures ∙ sym (ap (λ (f : Faced). f .refusal) same), (sym (ap (λ (f : Faced). f .image) same ∙ canonical _ (well _ _ so)), (rw (c .before .before .before .before .before .before .before .before .part-named .ensures, c .before .before .before .before .before .before .before .before .before .device-of .ensures) at (c .before .before .before .before .before .before .cut .ensures .1)) ∙ sym (ap (λ (f : Faced). f .cells) same))))  -- returns-2
+    (λ c. search needs)  -- same-length-4
+    (λ c. search needs)  -- same-length-5
+    (λ c.
+    let so = is-so _ _ (c .before .before .before .before .before .before .before .before .before .before .before .before .before .before .before .stands .ensures) (c .before .before .before .before .before .before .before .before .before .before .before .before .before .before .if1 .left) in
+    let same = told _ _ _ (cut-some _ _ _ _ so) (rw (c .before .before .before .before .before .enum-told .given .1, c .before .before .before .before .before .before .before .before .before .before .before .part-named .ensures, c .before .before .before .before .before .before .before .before .before .before .before .before .device-of .ensures) at (c .before .before .before .before .before .before .before .before .before .cut .ensures .0)) in
+    (c .number-of3 .ensures ∙ sym (ap (λ (f : Faced). f .refusal) same), (rw (c .before .before .before .put-cut .ensures, c .before .before .before .before .before .before .before .before .before .before .before .before .device-of .ensures) (sym (ap (λ (f : Faced). f .image) same)), (rw (c .before .before .before .before .before .before .before .before .before .before .before .part-named .ensures, c .before .before .before .before .before .before .before .before .before .before .before .before .device-of .ensures) at (c .before .before .before .before .before .before .before .before .before .cut .ensures .1)) ∙ sym (ap (λ (f : Faced). f .cells) same)))))  -- returns-3

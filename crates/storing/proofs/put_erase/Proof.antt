@@ -3,7 +3,6 @@ use lib.ListN.{length-set}
 use borrow.Author.Needs.{needs}
 use Rattle.layout.specs.Stored.{withErase}
 use Rattle.layout.proofs.Stored.{long-blocks}
-use Rattle.storing.proofs.Flags.{flag-byte, byte-fits}
 use Rattle.storing.proofs.put_erase.Statement.{statement}
 use Rattle.storing.proofs.put_erase.Tie as tie
 
@@ -15,10 +14,7 @@ put-erase-spec =
     (λ c κs. search needs)  -- put-blocks-requires
     (λ c. search needs)  -- slice-write-words
     (λ c. search needs)  -- slice-write-words-2
-    (λ c. search needs)  -- cast-words
-    (λ c. search needs)  -- cast-words-2
-    (λ c. omega (arith, byte-fits (c .before .before .before .before .before .before .before .args .erase .dq6), byte-fits (c .before .before .before .before .before .before .before .args .erase .dq2)))  -- mul-words
-    (λ c. omega (arith, byte-fits (c .before .before .before .before .before .before .before .args .erase .dq6), byte-fits (c .before .before .before .before .before .before .before .args .erase .dq2)))  -- add-words
-    (λ c. simp length-set (rw (c .before .before .before .before .put-blocks .ensures, long-blocks) (omega (arith, c .before .before .before .before .before .before .before .pre))))  -- slice-write-words-3
+    (λ c κs. search needs)  -- toggles-requires
+    (λ c. simp length-set (rw (c .before .before .before .put-blocks .ensures, long-blocks) (omega (arith, c .before .before .before .before .before .before .pre))))  -- slice-write-words-3
     (λ c. search needs)  -- same-length
-    (λ c. rw (c .before .before .before .before .put-blocks .ensures, flag-byte (c .before .before .before .before .before .before .before .args .erase .dq6), flag-byte (c .before .before .before .before .before .before .before .args .erase .dq2))))  -- returns
+    (λ c. rw (c .toggles .ensures, c .before .before .before .put-blocks .ensures)))  -- returns

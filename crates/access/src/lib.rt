@@ -1,0 +1,65 @@
+// A bus cycle with all its checks, told by what it does: a read by what it shows, a write by its effect. Who calls makes of it
+// the record, or the words of one.
+ghost use mathlib.Core.Path.{_≡_};
+ghost use Rattle.plain.specs.Commands.{effected};
+ghost use Rattle.plain.specs.Lent.{Lent, lent};
+ghost use Rattle.plain.specs.Machine.{Fit, readEvent, writeEvent};
+ghost use Rattle.access.specs.Sights.{sighted};
+use geometry::Part;
+use plain::Device;
+use plain::Effect;
+use plain::Entry;
+use plain::Refusal;
+use plain::Seen;
+
+pub enum Sight {
+    Refused(Refusal),
+    Shown(Seen),
+}
+
+pub fn read(part: Part, device: Device, cells: &[u16], address: usize) -> Sight
+    ensures { λ r. ⌜ sighted device r ≡ readEvent part device (lent (now (cells .entry))) address .answer ⌝ }
+{
+    let entry = judged::entry(part, device, cells);
+    match entry {
+        Entry::Barred(refusal) => Sight::Refused(refusal),
+        Entry::Admitted => admitted_read(part, device, cells, address),
+    }
+}
+
+// Once the record is sound and the cells are whole.
+fn admitted_read(part: Part, device: Device, cells: &[u16], address: usize) -> Sight
+    requires { ⌜ Fit part device (lent (now cells)) ⌝ }
+    ensures { λ r. ⌜ sighted device r ≡ readEvent part device (lent (now (cells .entry))) address .answer ⌝ }
+{
+    if part.words() <= address {
+        return Sight::Refused(Refusal::Address);
+    }
+    let command = device.command;
+    let operation = device.operation;
+    let bits = device.bits;
+    Sight::Shown(reading::look(part, bits, command, operation, cells, address))
+}
+
+// A write alters no cell: the cells are lent so that their length is judged.
+pub fn write(part: Part, device: Device, cells: &[u16], address: usize, word: u16) -> Effect
+    ensures { λ r. ⌜ effected device r ≡ writeEvent part device (lent (now (cells .entry))) address word .answer ⌝ }
+{
+    let entry = judged::entry(part, device, cells);
+    match entry {
+        Entry::Barred(refusal) => Effect::Stays(refusal),
+        Entry::Admitted => admitted_write(part, device, address, word),
+    }
+}
+
+fn admitted_write(part: Part, device: Device, address: usize, word: u16) -> Effect
+    ensures { λ r. ⌜ ((l : Lent) → Fit part device l → effected device r ≡ writeEvent part device l address word .answer) ⌝ }
+{
+    if part.words() <= address {
+        return Effect::Stays(Refusal::Address);
+    }
+    let command = device.command;
+    let operation = device.operation;
+    let bits = device.bits;
+    register::written(part, bits, operation, command, address, word)
+}
