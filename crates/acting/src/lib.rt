@@ -1,15 +1,15 @@
 // What a line asks for, done on the small part and answered.
 ghost use mathlib.Core.Path.{_≡_};
 ghost use lib.ListN.{length};
-ghost use Rattle.language.specs.Orders.{Within};
-ghost use Rattle.acting.specs.Acts.{acted};
+ghost use Rattle.language.specs.Orders.{Within, seen};
+ghost use Rattle.deeds.specs.Deeds.{does};
 use language::Order;
 use plain::Device;
 
 pub fn act(device: Device, order: Order, number: u64, cells: &mut [u16], words: &[u16]) -> Device
     requires { ⌜ (length (now cells) ≡ 16384) × Within order (length (now words)) ⌝ }
-    ensures { λ r. ⌜ r ≡ acted order device (now (cells .entry)) (now (words .entry)) .device ⌝ }
-    ensures { λ r. ⌜ now (cells .exit) ≡ acted order device (now (cells .entry)) (now (words .entry)) .cells ⌝ }
+    ensures { λ r. ⌜ r ≡ does (seen order (now (words .entry))) device (now (cells .entry)) .device ⌝ }
+    ensures { λ r. ⌜ now (cells .exit) ≡ does (seen order (now (words .entry))) device (now (cells .entry)) .cells ⌝ }
 {
     match order {
         Order::Nothing => device,

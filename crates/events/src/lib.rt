@@ -1,6 +1,6 @@
 // The four events on the small part, each done and told: they give the record afterwards.
 ghost use mathlib.Core.Path.{_≡_};
-ghost use Rattle.events.specs.Events.{afterRead, afterWrite, afterWait, afterCut};
+ghost use Rattle.deeds.specs.Events.{afterRead, afterWrite, afterWait, afterCut};
 
 mod exceptions;
 

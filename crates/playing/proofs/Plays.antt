@@ -6,40 +6,24 @@ use mathlib.Core.List.{List, [], _∷_}
 use native.Mathlib.Omega.{arith}
 use lib.Dec.{eqb}
 use lib.ListN.{length}
-use lib.Seq.{length-take-le, take-take}
-use Rattle.cells.specs.Cells.{littered}
 use Rattle.plain.specs.declared.Device.{Device}
 use Rattle.plain.specs.Choice.{if_then_else_}
 use Rattle.plain.specs.Record.{fresh}
 use Rattle.script.specs.declared.Line.{Line}
-use Rattle.language.specs.declared.Order.{Order}
 use Rattle.language.specs.Language.{Bytes, Meaning, meaning}
 use Rattle.language.specs.Orders.{Within, seen}
 use Rattle.script.specs.Lines.{noLine, fedLine, fedWords, endedOrder, endedWords}
 use Rattle.conformance.specs.Reading.{readFrom}
 use Rattle.conformance.proofs.LineBytes.{reads-meaning, fed-size, ended-size, ended-within}
-use Rattle.events.specs.Events.{State, state}
-use Rattle.acting.specs.Acts.{acted}
+use Rattle.deeds.specs.Events.{State, state}
+use Rattle.deeds.specs.Deeds.{does}
 use Rattle.playing.specs.Runs.{run, replay, begun, ended, fed, runOver}
-use Rattle.playing.specs.Plays.{does, goesOn, playsFrom, plays, left}
-
--- an order and the lent words do what the two together mean
-acted-does : (o : Order) (r : Device) (cells words : List ℕ) → Within o (length words) → acted o r cells words ≡ does (seen o words) r cells
-unfolding acted does littered
-acted-does Order.Nothing r cells words w = refl
-acted-does Order.Malformed r cells words w = refl
-acted-does (Order.Read a) r cells words w = refl
-acted-does (Order.Write a x) r cells words w = refl
-acted-does (Order.Wait d) r cells words w = refl
-acted-does (Order.Cut n) r cells words w = refl
-acted-does (Order.Cell a n) r cells words w = rw (length-take-le n words (w .1), take-take n n words (omega arith))
-acted-does Order.Fresh r cells words w = refl
+use Rattle.playing.specs.Plays.{goesOn, playsFrom, plays, left}
 
 -- a line that ends does what the reader makes of it
 ended-does : (r : Device) (l : Line) (n : ℕ) (cells words : List ℕ) → left (run (replay r l n) cells words) ≡ does (readFrom l words []) r cells
 unfolding ended readFrom
-ended-does r l n cells words =
-    acted-does (endedOrder l (length words)) r cells (endedWords l words) (rw (ended-size l words) (ended-within l (length words)))
+ended-does r l n cells words = refl
 
 -- two readings of a line that agree play alike
 same-plays : (bytes : List ℕ) (f g : List ℕ → Meaning) (s : State) → Bytes bytes → ((rest : List ℕ) → Bytes rest → f rest ≡ g rest) → playsFrom f bytes s ≡ playsFrom g bytes s

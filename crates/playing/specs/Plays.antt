@@ -3,25 +3,10 @@ use Prim.Native.Nat.{ℕ}
 use mathlib.Core.Bool.{Bool, true, false}
 use mathlib.Core.List.{List, [], _∷_}
 use lib.Dec.{eqb}
-use lib.ListN.{length}
-use Rattle.cells.specs.Cells.{erased, littered}
-use Rattle.plain.specs.declared.Device.{Device}
-use Rattle.plain.specs.Record.{fresh}
-use Rattle.language.specs.Language.{Meaning, nothing, malformed, read, write, wait, cut, cell, meaning}
-use Rattle.language.specs.Language.{fresh as freshen}
-use Rattle.events.specs.Events.{State, state, afterRead, afterWrite, afterWait, afterCut}
+use Rattle.language.specs.Language.{Meaning, meaning}
+use Rattle.deeds.specs.Events.{State, state}
+use Rattle.deeds.specs.Deeds.{does}
 use Rattle.playing.specs.Runs.{Run, ended}
-
--- "A line that is none of the above .. changes nothing"; neither does an empty one or a comment
-unfoldable pub does : Meaning → Device → (cells : List ℕ) → State
-does nothing r cells = state r cells
-does malformed r cells = state r cells
-does (read a) r cells = afterRead r cells a
-does (write a w) r cells = afterWrite r cells a w
-does (wait d) r cells = afterWait r cells d
-does (cut debris) r cells = afterCut r cells debris
-does (cell a words) r cells = state r (littered cells a (length words) words)
-does freshen r cells = state fresh (erased cells 0 (length cells))
 
 abbrev pub goesOn : (ends : Bool) (line : List ℕ → Meaning) (byte : ℕ) (rest : (List ℕ → Meaning) → State → State) → State → State
 goesOn true line byte rest s = rest meaning (does (line []) (s .device) (s .cells))

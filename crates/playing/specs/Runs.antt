@@ -9,7 +9,8 @@ use Rattle.plain.specs.Record.{fresh}
 use Rattle.script.specs.declared.Line.{Line}
 use Rattle.script.specs.Lines.{noLine, fedLine, fedWords, endedOrder, endedWords}
 use Rattle.playing.specs.declared.Replay.{Replay}
-use Rattle.acting.specs.Acts.{acted}
+use Rattle.language.specs.Orders.{seen}
+use Rattle.deeds.specs.Deeds.{does}
 
 abbrev pub replay : Device → Line → (number : ℕ) → Replay
 replay r l n = record { device = r; line = l; number = n }
@@ -32,7 +33,7 @@ unfoldable pub ended : Run → Run
 ended s =
     let p = s .replay in
     let words = endedWords (p .line) (s .words) in
-    let done = acted (endedOrder (p .line) (length (s .words))) (p .device) (s .cells) words in
+    let done = does (seen (endedOrder (p .line) (length (s .words))) words) (p .device) (s .cells) in
     run (replay (done .device) noLine ((p .number + 1) % 2 ^ 64)) (done .cells) words
 
 -- a byte of it

@@ -1,13 +1,14 @@
 use lib.Seq.{length-take-le}
-use mathlib.Core.Path.{sym}
+use mathlib.Core.Path.{sym, _∙_}
 use native.Mathlib.Omega.{arith}
-use Rattle.acting.specs.Acts.{acted}
+use Rattle.deeds.specs.Deeds.{does}
+use Rattle.acting.proofs.Taken.{litters}
 use borrow.Author.Needs.{needs}
 use Rattle.acting.proofs.act.Statement.{statement}
 use Rattle.acting.proofs.act.Tie as tie
 
 pub act-spec : {M : Type 1} → statement M
-unfolding acted
+unfolding does
 act-spec =
     tie.close
     (tie.spec
@@ -40,6 +41,6 @@ act-spec =
     (λ c. search needs)  -- same-length-4
     (λ c. let g = c .before .before .before .before .before .before .order4 .given .1 in let e = c .before .before .cut .ensures in (rw (g, e .0), rw (g, e .1)))  -- returns-6
     (λ c. search needs)  -- same-length-5
-    (λ c. let g = c .before .before .before .before .before .order5 .given .1 in (rw g, rw (g, c .before .before .litter .ensures)))  -- returns-7
+    (λ c. let g = c .before .before .before .before .before .order5 .given .1 in let w = rw g at (c .before .before .before .before .before .before .before .before .before .pre .1) in (rw g, rw g (c .before .before .litter .ensures ∙ litters _ _ _ _ (w .1))))  -- returns-7
     (λ c. search needs)  -- same-length-6
     (λ c. let g = c .before .before .before .before .before .before .before .enum-told3 .given .1 in (rw (g, c .fresh .ensures), rw (g, c .before .before .before .erase .ensures))))  -- returns-8
