@@ -13,7 +13,7 @@ pub fn is_sound(part: u64, words: &[u64]) -> bool
     if !calls::stands(part, words) {
         return false;
     }
-    machine::is_sound(calls::part_named(part), image::device_of(words))
+    soundness::is_sound(calls::part_named(part), image::device_of(words))
 }
 
 fn place_number(place: Place) -> u64
@@ -31,7 +31,7 @@ pub fn exposed_block(part: u64, words: &[u64]) -> u64
     if !calls::stands(part, words) {
         return NONE;
     }
-    let exposed = machine::exposed(calls::part_named(part), image::device_of(words));
+    let exposed = judged::exposed(calls::part_named(part), image::device_of(words));
     let block = exposed.block;
     place_number(block)
 }
@@ -42,7 +42,7 @@ pub fn exposed_word(part: u64, words: &[u64]) -> u64
     if !calls::stands(part, words) {
         return NONE;
     }
-    let exposed = machine::exposed(calls::part_named(part), image::device_of(words));
+    let exposed = judged::exposed(calls::part_named(part), image::device_of(words));
     let word = exposed.word;
     place_number(word)
 }
@@ -57,7 +57,7 @@ pub fn reads_cells(part: u64, words: &[u64], bank: usize) -> bool
     if named.banks() <= bank {
         return false;
     }
-    machine::reads_cells(named, image::device_of(words), bank)
+    judged::reads_cells(named, image::device_of(words), bank)
 }
 
 pub fn clock(part: u64, words: &[u64]) -> u64
