@@ -20,7 +20,7 @@ pub enum Sight {
 pub fn read(part: Part, device: Device, cells: &[u16], address: usize) -> Sight
     ensures { λ r. ⌜ sighted device r ≡ readEvent part device (lent (now (cells .entry))) address .answer ⌝ }
 {
-    let entry = judged::entry(part, device, cells);
+    let entry = judged::entry(part, soundness::is_sound(part, device), cells);
     match entry {
         Entry::Barred(refusal) => Sight::Refused(refusal),
         Entry::Admitted => admitted_read(part, device, cells, address),
@@ -45,7 +45,7 @@ fn admitted_read(part: Part, device: Device, cells: &[u16], address: usize) -> S
 pub fn write(part: Part, device: Device, cells: &[u16], address: usize, word: u16) -> Effect
     ensures { λ r. ⌜ effected device r ≡ writeEvent part device (lent (now (cells .entry))) address word .answer ⌝ }
 {
-    let entry = judged::entry(part, device, cells);
+    let entry = judged::entry(part, soundness::is_sound(part, device), cells);
     match entry {
         Entry::Barred(refusal) => Effect::Stays(refusal),
         Entry::Admitted => admitted_write(part, device, address, word),

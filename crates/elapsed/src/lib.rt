@@ -20,7 +20,7 @@ pub fn wait(part: Part, device: Device, cells: &mut [u16], microseconds: u64) ->
     ensures { λ r. ⌜ lapsed device r ≡ waitEvent part device (lent (now (cells .entry))) microseconds .answer ⌝ }
     ensures { λ r. ⌜ now (cells .exit) ≡ waitEvent part device (lent (now (cells .entry))) microseconds .lent .cells ⌝ }
 {
-    let entry = judged::entry(part, device, cells);
+    let entry = judged::entry(part, soundness::is_sound(part, device), cells);
     match entry {
         Entry::Barred(refusal) => Lapse::Refused(refusal),
         Entry::Admitted => admitted_wait(part, device, cells, microseconds),
@@ -50,7 +50,7 @@ pub fn cut(part: Part, device: Device, cells: &mut [u16], debris: &[u16]) -> Ent
     ensures { λ r. ⌜ cutBy device r ≡ cutEvent part device (lent (now (cells .entry))) (now (debris .entry)) .answer ⌝ }
     ensures { λ r. ⌜ now (cells .exit) ≡ cutEvent part device (lent (now (cells .entry))) (now (debris .entry)) .lent .cells ⌝ }
 {
-    let entry = judged::entry(part, device, cells);
+    let entry = judged::entry(part, soundness::is_sound(part, device), cells);
     match entry {
         Entry::Barred(refusal) => Entry::Barred(refusal),
         Entry::Admitted => admitted_cut(part, device, cells, debris),

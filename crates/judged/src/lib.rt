@@ -1,6 +1,8 @@
 // What begins with judging the record: the checks of every event, and what is asked without one.
 ghost use mathlib.Core.Path.{_≡_};
 ghost use Rattle.plain.specs.Lent.{lent};
+ghost use Rattle.plain.specs.declared.Device.{Device};
+ghost use Rattle.plain.specs.Sound.{sound};
 ghost use Rattle.plain.specs.Machine.{entry};
 ghost use Rattle.judged.specs.Asked.{exposedNow, readsCells};
 use cutting::Exposed;
@@ -10,11 +12,12 @@ use plain::Entry;
 use plain::Place;
 use plain::Refusal;
 
-// The checks that every event begins with: STATE, then CELLS.
-pub fn entry(part: Part, device: Device, cells: &[u16]) -> Entry
-    ensures { λ r. ⌜ r ≡ entry part device (lent (now (cells .entry))) ⌝ }
+// The checks that every event begins with: STATE, then CELLS. It is told whether the record is sound, and not handed the record,
+// which the compiler would copy.
+pub fn entry(part: Part, good: bool, cells: &[u16]) -> Entry
+    ensures { λ r. ⌜ ((d : Device) → good ≡ sound part d → r ≡ entry part d (lent (now (cells .entry)))) ⌝ }
 {
-    if !soundness::is_sound(part, device) {
+    if !good {
         return Entry::Barred(Refusal::State);
     }
     if cells.len() != part.words() {

@@ -12,9 +12,10 @@ unfolding sighted
 read-spec =
     tie.close
     (tie.spec
+    (λ c κs. search needs)  -- is-sound-requires
     (λ c κs. search needs)  -- entry-requires
     (λ c. search needs)  -- enum-known-entry
     (λ c. search needs)  -- enum-told
-    (λ c κs. admitted _ _ _ (sym (c .before .before .entry .ensures) ∙ c .enum-told .given .1))  -- admitted-read-requires
-    (λ c. answers (read-barred _ _ _ _ _ (sym (c .before .before .before .entry .ensures) ∙ c .before .entry2 .given .1)))  -- returns
+    (λ c κs. admitted _ _ _ (sym (c .before .before .entry .ensures _ (c .before .before .before .is-sound .ensures)) ∙ c .enum-told .given .1))  -- admitted-read-requires
+    (λ c. answers (read-barred _ _ _ _ _ (sym (c .before .before .before .entry .ensures _ (c .before .before .before .before .is-sound .ensures)) ∙ c .before .entry2 .given .1)))  -- returns
     (λ c. search needs))  -- returns-2

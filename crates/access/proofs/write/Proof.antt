@@ -12,9 +12,10 @@ unfolding effected
 write-spec =
     tie.close
     (tie.spec
+    (λ c κs. search needs)  -- is-sound-requires
     (λ c κs. search needs)  -- entry-requires
     (λ c. search needs)  -- enum-known-entry
     (λ c. search needs)  -- enum-told
     (λ c κs. search needs)  -- admitted-write-requires
-    (λ c. answers (write-barred _ _ _ _ _ _ (sym (c .before .before .before .entry .ensures) ∙ c .before .entry2 .given .1)))  -- returns
-    (λ c. c .admitted-write .ensures _ (admitted _ _ _ (sym (c .before .before .before .entry .ensures) ∙ c .before .enum-told .given .1))))  -- returns-2
+    (λ c. answers (write-barred _ _ _ _ _ _ (sym (c .before .before .before .entry .ensures _ (c .before .before .before .before .is-sound .ensures)) ∙ c .before .entry2 .given .1)))  -- returns
+    (λ c. c .admitted-write .ensures _ (admitted _ _ _ (sym (c .before .before .before .entry .ensures _ (c .before .before .before .before .is-sound .ensures)) ∙ c .before .enum-told .given .1))))  -- returns-2

@@ -9,8 +9,7 @@ pub entry-spec : {M : Type 1} → statement M
 entry-spec =
     tie.close
     (tie.spec
-    (λ c κs. search needs)  -- is-sound-requires
-    (λ c. sym (entry-state _ _ _ (unsound _ _ (c .before .is-sound .ensures) (c .if1 .taken))))  -- returns
+    (λ c. λ d e. sym (entry-state _ d _ (unsound _ _ e (c .if1 .taken))))  -- returns
     (λ c κs. search needs)  -- words-requires
-    (λ c. sym (entry-cells _ _ _ (is-so _ _ (c .before .before .before .is-sound .ensures) (c .before .before .if1 .left)) (λ e. c .if2 .taken (e ∙ sym (c .before .words .ensures)))))  -- returns-2
-    (λ c. sym (entry-admitted _ _ _ (record { sound = is-so _ _ (c .before .before .before .is-sound .ensures) (c .before .before .if1 .left); whole = c .if2 .left ∙ c .before .words .ensures }))))  -- returns-3
+    (λ c. λ d e. sym (entry-cells _ d _ (is-so _ _ e (c .before .before .if1 .left)) (λ n. c .if2 .taken (n ∙ sym (c .before .words .ensures)))))  -- returns-2
+    (λ c. λ d e. sym (entry-admitted _ d _ (record { sound = is-so _ _ e (c .before .before .if1 .left); whole = c .if2 .left ∙ c .before .words .ensures }))))  -- returns-3
