@@ -3,6 +3,10 @@ ghost use mathlib.Core.Path.{_≡_};
 ghost use lib.ListN.{length};
 ghost use Rattle.language.specs.Orders.{Within, seen};
 ghost use Rattle.deeds.specs.Deeds.{does};
+
+mod events;
+mod exceptions;
+
 use language::Order;
 use plain::Device;
 

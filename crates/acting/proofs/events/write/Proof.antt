@@ -1,5 +1,5 @@
-use Rattle.events.proofs.write.Statement.{statement}
-use Rattle.events.proofs.write.Tie as tie
+use Rattle.acting.proofs.events.write.Statement.{statement}
+use Rattle.acting.proofs.events.write.Tie as tie
 
 pub write-spec : {M : Type 1} → statement M
 write-spec =

@@ -1,9 +1,7 @@
 // The four events on the small part, each done and told: they give the record afterwards.
 ghost use mathlib.Core.Path.{_≡_};
 ghost use Rattle.deeds.specs.Events.{afterRead, afterWrite, afterWait, afterCut};
-
-mod exceptions;
-
+use crate::exceptions;
 use geometry::Part;
 use plain::Answer;
 use plain::Device;

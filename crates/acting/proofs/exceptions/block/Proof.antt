@@ -1,8 +1,8 @@
-use Rattle.events.proofs.Blocks.{block-end}
+use Rattle.acting.proofs.Blocks.{block-end}
 use native.Mathlib.Omega.{arith}
 use borrow.Author.Needs.{needs}
-use Rattle.events.proofs.exceptions.block.Statement.{statement}
-use Rattle.events.proofs.exceptions.block.Tie as tie
+use Rattle.acting.proofs.exceptions.block.Statement.{statement}
+use Rattle.acting.proofs.exceptions.block.Tie as tie
 
 pub block-spec : {M : Type 1} → statement M
 block-spec =

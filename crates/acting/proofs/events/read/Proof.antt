@@ -1,5 +1,5 @@
-use Rattle.events.proofs.read.Statement.{statement}
-use Rattle.events.proofs.read.Tie as tie
+use Rattle.acting.proofs.events.read.Statement.{statement}
+use Rattle.acting.proofs.events.read.Tie as tie
 
 pub read-spec : {M : Type 1} → statement M
 read-spec =

@@ -1,5 +1,5 @@
-use Rattle.events.proofs.cut.Statement.{statement}
-use Rattle.events.proofs.cut.Tie as tie
+use Rattle.acting.proofs.events.cut.Statement.{statement}
+use Rattle.acting.proofs.events.cut.Tie as tie
 use borrow.Author.Needs.{needs}
 
 pub cut-spec : {M : Type 1} → statement M

@@ -1,6 +1,6 @@
 use borrow.Author.Needs.{needs}
-use Rattle.events.proofs.wait.Statement.{statement}
-use Rattle.events.proofs.wait.Tie as tie
+use Rattle.acting.proofs.events.wait.Statement.{statement}
+use Rattle.acting.proofs.events.wait.Tie as tie
 
 pub wait-spec : {M : Type 1} → statement M
 wait-spec =
