@@ -11,6 +11,7 @@ pub mod Register
 pub mod SoundTime
 pub mod Ends
 pub mod Leaps
+pub mod QuickSound
 pub mod Quick
 pub mod EventLaws
 pub mod HistoryLeaps
