@@ -56,14 +56,12 @@ build_archive() {
     rt staticlib "$1" >"target/c/$1.log" 2>&1 || { cat "target/c/$1.log" >&2; die "rt staticlib $1 failed"; }
 }
 
-# All that the header declares. The lookups are in an archive of their own if the emulator's has them not.
+# All that the header declares: the lookups are in an archive of their own, which needs no other crate and is built beside.
 build_library() {
+    build_archive geometry &
     build_archive emulator
-    library=target/staticlib/libemulator.a
-    if ! grep -q k5l_small_block "$library"; then
-        build_archive geometry
-        library="$library target/staticlib/libgeometry.a"
-    fi
+    wait $! || exit 1
+    library="target/staticlib/libemulator.a target/staticlib/libgeometry.a"
 }
 
 # compile PROGRAM FILE|OPTION..: builds target/c/PROGRAM with the library.
