@@ -11,7 +11,6 @@ pub mod Register
 pub mod SoundTime
 pub mod Ends
 pub mod Leaps
-pub mod QuickSound
 pub mod Quick
 pub mod EventLaws
 pub mod HistoryLeaps

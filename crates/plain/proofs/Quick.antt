@@ -1,49 +1,30 @@
 -- The plain machine with waits in leaps: equal to it, and quick enough to compute worked rows by.
 use Prim.Native.Nat.{ℕ, _+_}
-use mathlib.Core.Path.{_≡_, refl, ap, _∙_}
+use mathlib.Core.Path.{_≡_, refl, ap}
 use mathlib.Core.Bool.{Bool, true, false, not}
 use mathlib.Core.List.{List, [], _∷_}
-use lib.Dec.{ltb, leb}
-use lib.ListN.{length}
+use lib.Dec.{leb}
 use Rattle.geometry.specs.declared.Part.{Part}
-use Rattle.geometry.specs.Parts.{wordCount}
-use Rattle.plain.specs.declared.Refusal.{Refusal}
-use Rattle.plain.specs.declared.Refusal.the-variants.{State, Cells, Address, Clock, Debris}
+use Rattle.plain.specs.declared.Refusal.the-variants.{Clock, Inner}
 use Rattle.plain.specs.declared.Device.{Device}
-use Rattle.plain.specs.declared.Entry.{Entry}
-use Rattle.plain.specs.declared.Entry.the-variants.{Admitted, Barred}
 use Rattle.plain.specs.Choice.{if_then_else_}
 use Rattle.plain.specs.Events.{Event, read, write, wait, cut, Turn}
 use Rattle.plain.specs.Figures.{clockLimit}
-use Rattle.plain.specs.Lent.{Lent, isWhole}
+use Rattle.plain.specs.Lent.{Lent}
 use Rattle.plain.specs.Sound.{sound}
 use Rattle.plain.specs.Time.{ticks, someEndProtected}
-use Rattle.plain.specs.Cut.{debrisNeeded}
-use Rattle.plain.specs.Machine.{Outcome, Ran, refused, climbed, ladder, entry, readTaken, writeTaken, now, waited, waitTaken, cutTaken, readEvent, writeEvent, waitEvent, cutEvent, step, run}
+use Rattle.plain.specs.Machine.{Outcome, Ran, refused, climbed, ladder, entry, now, waited, waitTaken, readEvent, writeEvent, waitEvent, cutEvent, step, run}
 use Rattle.plain.proofs.Ends.{none-ends}
 use Rattle.plain.proofs.Facts.{sound-operation}
 use Rattle.plain.proofs.Ladder.{by-entry, entry-state, entry-cells}
 use Rattle.plain.proofs.Leaps.{leap, leap-ticks}
-use Rattle.plain.proofs.QuickSound.{quickSound, quick-sound}
 
 -- a chip erase has at most 270 happenings, and a wait may end after them
 abbrev fuel : ℕ
 fuel = 272
 
--- the ladder, with soundness by members
-unfoldable pub quickEntry : Part → Device → Lent → Entry
-quickEntry p r l =
-    if not (quickSound p r) then Barred State
-    else if not (isWhole p l) then Barred Cells
-    else Admitted
-
-unfoldable pub quickLadder : Part → Device → Lent → (fails : Bool) → (own : Refusal) → (taken : Outcome) → Outcome
-quickLadder p r l fails own taken = climbed (quickEntry p r l) r l (if fails then refused own r l else taken)
-
-quick-ladder : (p : Part) (r : Device) (l : Lent) (fails : Bool) (own : Refusal) (taken : Outcome)
-    → ladder p r l fails own taken ≡ quickLadder p r l fails own taken
-unfolding ladder quickLadder entry quickEntry
-quick-ladder p r l fails own taken = rw (quick-sound p r)
+unfoldable pub quickWait : Part → Device → Lent → ℕ → Outcome
+quickWait p r l n = ladder p r l (not (leb (r .meter .clock + n) (clockLimit p))) Clock (waited r (leap p fuel n (now r l)))
 
 -- INNER is never met on a sound record
 pub never-inner : (p : Part) (r : Device) (l : Lent) (n : ℕ) → sound p r ≡ true → someEndProtected p (r .bits) n (now r l) ≡ false
@@ -52,25 +33,24 @@ never-inner p r l n s = none-ends p (r .bits) n (now r l) (sound-operation p r s
 pub wait-taken : (p : Part) (r : Device) (l : Lent) (n : ℕ) → sound p r ≡ true → waitTaken p r l n ≡ waited r (ticks p n (now r l))
 wait-taken p r l n s = rw (never-inner p r l n s)
 
-wait-leaps : (p : Part) (r : Device) (l : Lent) (n : ℕ)
-    → waitEvent p r l n ≡ ladder p r l (not (leb (r .meter .clock + n) (clockLimit p))) Clock (waited r (leap p fuel n (now r l)))
-unfolding waitEvent ladder climbed
-wait-leaps p r l n =
+pub quick-wait : (p : Part) (r : Device) (l : Lent) (n : ℕ) → waitEvent p r l n ≡ quickWait p r l n
+unfolding waitEvent quickWait ladder climbed
+quick-wait p r l n =
     by-entry p r l (λ s. rw (entry-state p r l s)) (λ s k. rw (entry-cells p r l s k))
     (λ f. rw (wait-taken p r l n (f .sound), leap-ticks p fuel n (now r l)))
 
 unfoldable pub quickStep : Part → Device → Lent → Event → Outcome
-quickStep p r l (read a) = quickLadder p r l (not (ltb a (wordCount p))) Address (readTaken p r l a)
-quickStep p r l (write a w) = quickLadder p r l (not (ltb a (wordCount p))) Address (writeTaken p r l a w)
-quickStep p r l (wait n) = quickLadder p r l (not (leb (r .meter .clock + n) (clockLimit p))) Clock (waited r (leap p fuel n (now r l)))
-quickStep p r l (cut debris) = quickLadder p r l (ltb (length debris) (debrisNeeded p (r .operation))) Debris (cutTaken p r l debris)
+quickStep p r l (read a) = readEvent p r l a
+quickStep p r l (write a w) = writeEvent p r l a w
+quickStep p r l (wait n) = quickWait p r l n
+quickStep p r l (cut debris) = cutEvent p r l debris
 
 pub quick-step : (p : Part) (r : Device) (l : Lent) (e : Event) → step p r l e ≡ quickStep p r l e
-unfolding step quickStep readEvent writeEvent cutEvent
-quick-step p r l (read a) = quick-ladder p r l _ _ _
-quick-step p r l (write a w) = quick-ladder p r l _ _ _
-quick-step p r l (wait n) = wait-leaps p r l n ∙ quick-ladder p r l _ _ _
-quick-step p r l (cut debris) = quick-ladder p r l _ _ _
+unfolding step quickStep
+quick-step p r l (read a) = refl
+quick-step p r l (write a w) = refl
+quick-step p r l (wait n) = quick-wait p r l n
+quick-step p r l (cut debris) = refl
 
 unfoldable pub quickRun : Part → Device → Lent → List Event → Ran
 quickRun p r l [] = record { device = r; lent = l; turns = [] }

@@ -14,18 +14,17 @@ use Rattle.plain.specs.Lent.{lent}
 use Rattle.plain.specs.Programs.{writes, datum, firstWord, liesIn, blockWritten, bankWritten, dq7, finished, debrisWords, debrisFor, cutOff}
 use Rattle.plain.specs.Operations.{runningInside, runningOf, suspensionOf}
 use Rattle.plain.specs.Record.{fresh}
-use Rattle.plain.specs.Sound.{meterSound, programSound, lowest, insideSound, cycleInRange, readingInRange, cycleInSuspension, cycleSound, stillCommand, isGround, isStill, commandSound}
+use Rattle.plain.specs.Sound.{meterSound, programSound, listSound, chipListSound, lowest, insideSound, operationSound, cycleInRange, readingInRange, cycleInSuspension, cycleSound, stillCommand, isGround, isStill, commandSound, sound}
 use Rattle.plain.specs.Commands.{isSuspended, programIsSuspended, resumes, begins, atGround, afterUnlock, afterUnlocked, afterA0, after80, after80Unlock, after80Unlocked, after48, after60, after68, after6060, afterReading, continued, entered, addBlock, inWindow, inSuspendedErase, written, effected}
 use Rattle.plain.specs.Time.{current, insideTick, operationTick, lentTick, tick, ticks}
 use Rattle.plain.specs.Status.{polls, insidePolled, polled, status, givenAt, givenWord, readingOn, readingWord, rests, restWord, rested, look}
 use Rattle.plain.specs.Cut.{begunBlock, begunInside, begunProgram, wordOf, blockDebris, programDebris, debrisNeeded, blockCut, programCut, cutLent}
-use Rattle.plain.specs.Machine.{climbed, run}
+use Rattle.plain.specs.Machine.{entry, climbed, ladder, readEvent, writeEvent, cutEvent, run}
 use Rattle.plain.specs.Bench.{Finding, Row, lookups, runs, stated, after, found, bench}
 use Rattle.plain.specs.History.{Told, kind, draws, goes, comes, microsecond, beginsProgram, goesOn, hearsCycle, hears, wrote, gaveUp, turnedDown, wroteAs, cuts, cutAs, untold, history}
 use Rattle.plain.specs.Worked.{Tale, Work, tells, worked, blank, tales}
 use Rattle.plain.proofs.Leaps.{insideDue, dueOf, insideLess, less, drifted, leap}
-use Rattle.plain.proofs.QuickSound.{inWord, inSet, quickStray, quickList, quickOperation, quickSound}
-use Rattle.plain.proofs.Quick.{quickEntry, quickLadder, quickStep, quickRun, quick-run}
+use Rattle.plain.proofs.Quick.{quickWait, quickStep, quickRun, quick-run}
 use Rattle.plain.proofs.HistoryLeaps.{toGo, further, later, quickTime, quickWaited, quickTell, quickTold, quick-told}
 
 -- ---- the same with waits in leaps
@@ -64,16 +63,15 @@ unfolding has pack setOf some seek programmed erased littered cutShort
     number programTime windowTime eraseTime chipTime runningCurrent standbyCurrent clockLimit
     writes datum firstWord liesIn blockWritten bankWritten dq7 finished debrisWords debrisFor cutOff
     runningInside runningOf suspensionOf
-    meterSound programSound lowest insideSound
-    cycleInRange readingInRange cycleInSuspension cycleSound stillCommand isGround isStill commandSound
+    meterSound programSound listSound chipListSound lowest insideSound operationSound
+    cycleInRange readingInRange cycleInSuspension cycleSound stillCommand isGround isStill commandSound sound
     isSuspended programIsSuspended resumes begins atGround afterUnlock afterUnlocked afterA0 after80 after80Unlock after80Unlocked
     after48 after60 after68 after6060 afterReading continued entered addBlock inWindow inSuspendedErase written effected
     current insideTick operationTick lentTick tick
     polls insidePolled polled status givenAt givenWord readingOn readingWord rests restWord rested look
     begunBlock begunInside begunProgram wordOf blockDebris programDebris debrisNeeded blockCut programCut cutLent
-    climbed
-    insideDue dueOf insideLess less drifted leap
-    inWord inSet quickStray quickList quickOperation quickSound quickEntry quickLadder quickStep quickRun
+    entry climbed ladder readEvent writeEvent cutEvent
+    insideDue dueOf insideLess less drifted leap quickWait quickStep quickRun
     kind draws goes comes microsecond beginsProgram goesOn hearsCycle hears wrote gaveUp turnedDown wroteAs cuts cutAs
     toGo further later quickTime quickWaited quickTell quickTold
 computed = (refl, refl)
