@@ -2,7 +2,7 @@
 use Prim.Native.Nat.{ℕ}
 use mathlib.Core.Path.{_≡_, refl, ap, subst}
 use mathlib.Core.Bool.{true}
-use mathlib.Core.List.{List, _∷_, _++_}
+use mathlib.Core.List.{List}
 use lib.ListN.{length, length-set}
 use Rattle.blocks.specs.declared.Blocks.{Blocks}
 use Rattle.meter.specs.declared.Meter.{Meter}
@@ -11,12 +11,11 @@ use Rattle.plain.specs.declared.Operation.{Operation}
 use Rattle.plain.specs.declared.Command.{Command}
 use Rattle.plain.specs.declared.Device.{Device}
 use Rattle.plain.specs.Record.{device, program, erase}
-use Rattle.layout.specs.declared.CommandWords.{CommandWords}
 use Rattle.layout.specs.declared.OperationParts.{OperationParts}
-use Rattle.layout.specs.Places.{layoutNumber, recordWords}
+use Rattle.layout.specs.Places.{recordWords}
 use Rattle.layout.specs.Commands.{commandWords}
 use Rattle.layout.specs.Operations.{parts, operationParts}
-use Rattle.layout.specs.Image.{meterSection, commandSection, operationSection, bitsSection, imageOf, wordsFrom, wellFormed, deviceOf}
+use Rattle.layout.specs.Image.{sections, imageOf, wordsFrom, wellFormed, deviceOf}
 use Rattle.layout.specs.Stored.{withMeter, withCommand, withBlocks, withErase, withProgram, withOperation, withToggles, withBits, withRecord}
 use Rattle.layout.proofs.Words.{section-whole}
 use Rattle.layout.proofs.Canonical.{canonical}
@@ -48,10 +47,6 @@ retoggled x y =
     parts (x .number) (erase (x .erase .list) (x .erase .hand) (x .erase .left) (y .erase .dq6) (y .erase .dq2))
     (program (x .program .writes) (x .program .left) (y .program .dq6))
 
-abbrev image : Meter → CommandWords → OperationParts → Protection → List ℕ
-image m c o b =
-    layoutNumber ∷ (meterSection m ++ (commandSection c ++ (operationSection o ++ bitsSection b)))
-
 module _ (i : List ℕ) (well : wellFormed i ≡ true) where
   over : (store : List ℕ → List ℕ) (r : Device) → store (imageOf (deviceOf i)) ≡ imageOf r → store i ≡ imageOf r
   over store r e = subst (λ (z : List ℕ). store z ≡ imageOf r) (canonical i well) e
@@ -70,7 +65,7 @@ module _ (i : List ℕ) (well : wellFormed i ≡ true) where
   unfolding imageOf withToggles
   stored-toggles o e =
       over (λ z. withToggles z o) (device (deviceOf i .meter) (deviceOf i .command) o (deviceOf i .bits))
-      (ap (λ (x : OperationParts). image (deviceOf i .meter) (commandWords (deviceOf i .command)) x (deviceOf i .bits)) e)
+      (ap (λ (x : OperationParts). sections (deviceOf i .meter) (commandWords (deviceOf i .command)) x (deviceOf i .bits)) e)
 
   -- a wait,
   pub stored-passed : (m : Meter) (o : Operation) → withOperation (withMeter i m) o ≡ imageOf (device m (deviceOf i .command) o (deviceOf i .bits))

@@ -51,10 +51,12 @@ operationSection o = o .number ∷ (eraseSection (o .erase) ++ programSection (o
 abbrev pub bitsSection : Protection → List ℕ
 bitsSection b = blocksSection (b .dyb) ++ (blocksSection (b .ppb) ++ (flag (b .lock) ∷ []))
 
+-- one after the other, behind the layout's number
+abbrev pub sections : Meter → CommandWords → OperationParts → Protection → List ℕ
+sections m c o b = layoutNumber ∷ (meterSection m ++ (commandSection c ++ (operationSection o ++ bitsSection b)))
+
 unfoldable pub imageOf : Device → List ℕ
-imageOf r =
-    layoutNumber ∷ (meterSection (r .meter) ++ (commandSection (commandWords (r .command))
-    ++ (operationSection (operationParts (r .operation)) ++ bitsSection (r .bits))))
+imageOf r = sections (r .meter) (commandWords (r .command)) (operationParts (r .operation)) (r .bits)
 
 -- ---- what stands at a place
 
