@@ -34,8 +34,8 @@ enum {
     K5L_BANK = 8,       /* a further erase block in another bank */
     K5L_PROTECTED = 9,  /* the block is protected; for a chip erase, every block is */
     K5L_SUSPENDED = 10, /* a command that is not allowed in suspension */
-    K5L_LOCKED = 11,    /* a PPB change with the PPB lock bit set */
-    K5L_INNER = 12      /* an operation ends in a block then protected (no sound record gives it) */
+    K5L_LOCKED = 11     /* a PPB change with the PPB lock bit set */
+    /* 12 is unused, and stays so: no call gives it. */
 };
 
 /* The parts. */

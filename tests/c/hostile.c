@@ -1,6 +1,6 @@
 /*
- * Whatever is lent is answered, and as the model says: wrong lengths, parts that do not exist, random bits for a record, and
- * sound records with a word altered. STATE must leave the record bit for bit and the cells as they were.
+ * Whatever is lent is answered, and as the model says: wrong lengths, parts that do not exist, random bits for a record, sound
+ * records with a word altered, and operations in protected blocks. STATE must leave the record bit for bit and the cells as they were.
  */
 #include "check.h"
 #include "dice.h"
@@ -129,6 +129,33 @@ static void altered_images(struct pair *pair, unsigned every)
     SAME(met, 13 + 5 + 6 + 5); /* idle, suspended program, suspended erase, and the five that run */
 }
 
+/* Would the operation, going on, change words of the block? */
+static bool works_in(uint64_t part, const struct model_record *record, uint64_t block)
+{
+    return (model_has_erase(record) && model_has(&record->erase.list, block))
+        || (model_has_program(record) && model_block(part, record->program.at) == block);
+}
+
+/* What number 12 was for: an operation that would end in a protected block. No sound record has one, so every event is STATE. */
+static void protected_operation(struct pair *pair, enum model_operation operation)
+{
+    static const uint64_t waits[] = { 0, 1, 6, 50, 700000, 100000000000000 };
+    struct model_record sound;
+
+    HOLDS(sound_image(pair, operation, MODEL_GROUND));
+    HOLDS(image_decode(pair->image, K5L_RECORD_WORDS, &sound));
+    for (uint64_t block = 0; block < MODEL_BLOCKS; block++)
+        for (int ppb = 0; ppb < 2 && works_in(pair->part, &sound, block); ppb++) {
+            struct model_record record = sound;
+
+            model_put(ppb ? &record.ppb : &record.dyb, block, true);
+            image_encode(&record, pair->image);
+            for (unsigned i = 0; i < sizeof waits / sizeof *waits; i++)
+                SAME(k5l_wait(pair->part, pair->image, K5L_RECORD_WORDS, pair->cells, pair->length, waits[i]), K5L_STATE);
+            put_all(pair);
+        }
+}
+
 /* Often 0, else of any size. */
 static uint64_t some_number(void)
 {
@@ -232,6 +259,10 @@ int main(void)
     pair_fill(&full, some_word);
     wrong_fresh();
     nothing_lent(&small);
+    for (int operation = MODEL_PROGRAM; operation <= MODEL_CHIP_ERASE; operation++) {
+        protected_operation(&small, (enum model_operation)operation);
+        protected_operation(&full, (enum model_operation)operation);
+    }
     for (int round = 0; round < 4; round++)
         altered_images(&small, 1);
     random_images(&small, 5000);

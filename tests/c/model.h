@@ -11,7 +11,7 @@
 #include <stddef.h>
 #include <stdint.h>
 
-/* Document 01, Refusals by number. INNER is missing: it needs an operation in a protected block, and that is STATE. */
+/* Document 01, Refusals by number. 12 is unused: a record with an operation in a protected block is STATE. */
 enum model_refusal {
     MODEL_DONE, MODEL_STATE, MODEL_CELLS, MODEL_ADDRESS, MODEL_CLOCK, MODEL_DEBRIS, MODEL_BUSY, MODEL_SEQUENCE, MODEL_BANK,
     MODEL_PROTECTED, MODEL_SUSPENDED, MODEL_LOCKED

@@ -63,6 +63,5 @@ pub fn number_of(refusal: Refusal) -> u64
         Refusal::Protected => 9,
         Refusal::Suspended => 10,
         Refusal::Locked => 11,
-        Refusal::Inner => 12,
     }
 }

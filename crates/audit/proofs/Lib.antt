@@ -1,3 +1,6 @@
 pub mod Same
 pub mod Asked
 pub mod Carried
+pub mod Ends
+pub mod Data
+pub mod Called

@@ -1,1 +1,3 @@
 pub mod Performed
+pub mod Ends
+pub mod Called

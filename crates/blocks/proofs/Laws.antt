@@ -5,9 +5,9 @@ use mathlib.Core.Bool.{Bool, true, false, true≢false, _||_, _&&_, not, and-fal
 use native.Mathlib.Decide.{decLt}
 use native.Mathlib.Omega.{arith}
 use lib.Dec.{eqb}
-use borrow.Author.Tests.{eqb-true, ne-eqb, not-true}
+use borrow.Author.Tests.{eqb-true, ne-eqb}
 use Rattle.blocks.specs.declared.Blocks.{Blocks}
-use Rattle.blocks.specs.Blocks.{has, setOf, some, emptyOf, withOf, withoutOf, unionOf, minusOf, meetsOf, isEmptyOf}
+use Rattle.blocks.specs.Blocks.{has, setOf, some, emptyOf, withOf, withoutOf, unionOf, minusOf}
 use Rattle.blocks.proofs.View.{has-setOf, has-past}
 
 -- ---- some number below n
@@ -76,29 +76,3 @@ has-union s t m = has-of (λ k. has s k || has t k) m (λ l. rw (has-past s m l,
 
 pub has-minus : (s t : Blocks) (m : ℕ) → has (minusOf s t) m ≡ (has s m && not (has t m))
 has-minus s t m = has-of (λ k. has s k && not (has t k)) m (λ l. rw (has-past s m l))
-
--- ---- two sets that share nothing
-
--- a member of the one is no member of the other
-pub meets-not : (s t : Blocks) (n : ℕ) → meetsOf s t ≡ false → has s n ≡ true → has t n ≡ false
-meets-not s t n e m = go (decLt n 320)
-  where
-    go : Dec (n < 320) → has t n ≡ false
-    go (yes l) = ap (λ (b : Bool). b && has t n) (sym m) ∙ some-not (λ k. has s k && has t k) 320 n e l
-    go (no l) = has-past t n (omega arith)
-
-pub meets-none : (s t : Blocks) → ((n : ℕ) → n < 320 → has s n ≡ true → has t n ≡ false) → meetsOf s t ≡ false
-meets-none s t h = some-none (λ k. has s k && has t k) 320 (λ n l. go n l (has s n) refl)
-  where
-    go : (n : ℕ) → n < 320 → (b : Bool) → has s n ≡ b → (has s n && has t n) ≡ false
-    go n l true e = rw (e, h n l e)
-    go n l false e = rw e
-
--- ---- no number at all
-
-pub empty-not : (s : Blocks) (n : ℕ) → isEmptyOf s ≡ true → has s n ≡ false
-empty-not s n e = go (decLt n 320)
-  where
-    go : Dec (n < 320) → has s n ≡ false
-    go (yes l) = some-not (has s) 320 n (not-true (some (has s) 320) e) l
-    go (no l) = has-past s n (omega arith)

@@ -39,10 +39,6 @@ fn admitted_wait(part: Part, device: Device, cells: &mut [u16], microseconds: u6
         return Lapse::Refused(Refusal::Clock);
     }
     let operation = device.operation;
-    let bits = device.bits;
-    if inner::holds_protected(part, bits, operations::running_of(operation)) {
-        return Lapse::Refused(Refusal::Inner);
-    }
     Lapse::Passed(waiting::pass(part, meter, operation, cells, microseconds))
 }
 

@@ -1,13 +1,12 @@
 -- What the face answers, once it is known whether the words stand for a record, and whether the event is admitted.
-use Prim.Native.Nat.{ℕ, _≤_}
+use Prim.Native.Nat.{ℕ}
 use mathlib.Core.Path.{_≡_, refl, sym, ap, _∙_}
 use mathlib.Core.Bool.{true, false}
 use mathlib.Core.List.{List}
 use native.Mathlib.Omega.{arith}
-use lib.Dec.{lit≤}
 use lib.ListN.{length}
 use Rattle.plain.specs.declared.Refusal.{Refusal}
-use Rattle.plain.specs.declared.Refusal.the-variants.{Done, State, Cells, Address, Clock, Debris, Busy, Sequence, Bank, Protected, Suspended, Locked, Inner}
+use Rattle.plain.specs.declared.Refusal.the-variants.{State}
 use Rattle.plain.specs.declared.Answer.{Answer}
 use Rattle.plain.specs.declared.Entry.the-variants.{Admitted, Barred}
 use Rattle.plain.specs.Lent.{lent}
@@ -20,22 +19,6 @@ use Rattle.layout.specs.Places.{recordWords}
 use Rattle.layout.specs.Image.{imageOf, wellFormed, deviceOf}
 use Rattle.layout.proofs.Canonical.{canonical, long}
 use Rattle.face.specs.Face.{Faced, isPart, partNamed, stands, standsSound, answered, shown, state, faceEntry, faceRead, faceWrite, faceWait, faceCut}
-
-pub number-small : (x : Refusal) → number x ≤ 12
-unfolding number
-number-small Done = lit≤ tt
-number-small State = lit≤ tt
-number-small Cells = lit≤ tt
-number-small Address = lit≤ tt
-number-small Clock = lit≤ tt
-number-small Debris = lit≤ tt
-number-small Busy = lit≤ tt
-number-small Sequence = lit≤ tt
-number-small Bank = lit≤ tt
-number-small Protected = lit≤ tt
-number-small Suspended = lit≤ tt
-number-small Locked = lit≤ tt
-number-small Inner = lit≤ tt
 
 -- the face's answer, from that of the plain machine
 pub told : (f : Faced) (o : Outcome) (y : Answer) → f ≡ shown o → y ≡ o .answer → f ≡ answered (number (y .refusal)) (y .word) (imageOf (y .device)) (o .lent .cells)

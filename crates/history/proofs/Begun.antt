@@ -31,6 +31,7 @@ use Rattle.plain.proofs.Tools.{by-test, clash}
 use Rattle.plain.proofs.BegunSound.{begins}
 use Rattle.plain.proofs.CutCells.{nowhere, no-program}
 use Rattle.plain.proofs.Facts.{EraseFacts, erasing, erase-suspended, chip-erasing, inside-runs}
+use Rattle.plain.proofs.Ends.{erasable-free}
 use Rattle.history.proofs.Seen.{seenInside, seenOp}
 
 -- ---- a block, or a program, that has begun
@@ -125,7 +126,7 @@ module _ (p : Part) where
 
   module _ (bits : Protection) where
     block-free-of : (e : Erase) (full b : ℕ) → EraseFacts p bits e full → ifBegun (e .left) full (e .hand) ≡ At b → protected bits b ≡ false
-    block-free-of e full b f d = rw (← there (e .left) full (e .hand) b d .place) (f .unprotected (e .hand) (f .hand-listed))
+    block-free-of e full b f d = rw (← there (e .left) full (e .hand) b d .place) (erasable-free bits (e .hand) (f .erasable (e .hand) (f .hand-listed)))
 
     pub block-free : (o : Operation) → operationSound p bits o ≡ true → (b : ℕ) → begunBlock p o ≡ At b → protected bits b ≡ false
     unfolding begunBlock

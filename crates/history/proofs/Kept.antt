@@ -5,9 +5,9 @@ use mathlib.Core.Bool.{true}
 use mathlib.Core.List.{List, [], _∷_}
 use lib.ListN.{length}
 use Rattle.geometry.specs.declared.Part.{Part}
-use Rattle.plain.specs.declared.Refusal.{Refusal}
-use Rattle.plain.specs.declared.Refusal.the-variants.{Done, State, Debris, Inner}
+use Rattle.plain.specs.declared.Refusal.the-variants.{Done, State, Debris}
 use Rattle.plain.specs.declared.Device.{Device}
+use Rattle.plain.specs.Ends.{StaysSound, NoRunEndsProtected}
 use Rattle.plain.specs.Events.{Event, cut}
 use Rattle.plain.specs.Lent.{Lent}
 use Rattle.plain.specs.Record.{fresh}
@@ -17,12 +17,13 @@ use Rattle.plain.specs.Cut.{debrisNeeded}
 use Rattle.plain.specs.Machine.{step, run, Fit}
 use Rattle.plain.proofs.Tools.{clash}
 use Rattle.plain.proofs.Facts.{fresh-sound}
+use Rattle.plain.proofs.Ends.{never-ends-protected}
 use Rattle.plain.proofs.EventLaws.{cut-debris, cut-passes}
 use Rattle.history.proofs.KeptWrite.{never}
 use Rattle.history.proofs.KeptEvents.{step-kept}
 
 -- every event on a sound record leaves a sound one
-pub step-sound : (p : Part) (r : Device) (l : Lent) (e : Event) → sound p r ≡ true → sound p (step p r l e .answer .device) ≡ true
+pub step-sound : (p : Part) → StaysSound p
 step-sound p r l e s = step-kept p r s l e .device
 
 -- and so does every run; a fresh device's record is sound after any
@@ -35,19 +36,18 @@ run-sound p r l (e ∷ es) s =
 pub always-sound : (p : Part) (l : Lent) (es : List Event) → sound p (run p fresh l es .device) ≡ true
 always-sound p l es = run-sound p fresh l es (fresh-sound p)
 
--- ---- what is never answered
+-- ---- what never comes
 
-never-answers : (p : Part) (r : Device) (l : Lent) (e : Event) (n : Refusal) → never n ≡ true → sound p r ≡ true → step p r l e .answer .refusal ≡ n → ⊥
-never-answers p r l e n h s q = clash h (rw q at (step-kept p r s l e .refusal))
+pub no-run-ends-protected : (p : Part) → NoRunEndsProtected p
+no-run-ends-protected p start es l n =
+    never-ends-protected p (run p fresh start es .device) l n (always-sound p start es)
 
-pub never-inner : (p : Part) (r : Device) (l : Lent) (e : Event) → sound p r ≡ true → step p r l e .answer .refusal ≡ Inner → ⊥
+-- whatever l comes with the event
+pub never-state : (p : Part) (start : Lent) (es : List Event) (l : Lent) (e : Event) → step p (run p fresh start es .device) l e .answer .refusal ≡ State → ⊥
 unfolding number
-never-inner p r l e = never-answers p r l e Inner refl
-
--- whatever l come with the event
-pub never-state : (p : Part) (l : Lent) (es : List Event) (c : Lent) (e : Event) → step p (run p fresh l es .device) c e .answer .refusal ≡ State → ⊥
-unfolding number
-never-state p l es c e = never-answers p (run p fresh l es .device) c e State refl (always-sound p l es)
+never-state p start es l e q =
+    let state : never State ≡ true = refl in
+    clash state (rw q at (step-kept p (run p fresh start es .device) (always-sound p start es) l e .refusal))
 
 -- ---- a cut is taken if the debris is enough, and refused if not
 

@@ -1,4 +1,4 @@
--- Every event on a sound record leaves a sound one, and is answered neither STATE nor INNER.
+-- Every event on a sound record leaves a sound one, and is not answered STATE.
 use Prim.Native.Nat.{ℕ, _+_, _≤_}
 use mathlib.Core.Path.{_≡_, refl, _∙_}
 use mathlib.Core.Bool.{Bool, true, false, not}
@@ -33,7 +33,6 @@ use Rattle.plain.proofs.Tools.{by-test, clash}
 use Rattle.plain.proofs.Facts.{sound-clock, sound-charge, sound-bits, sound-operation, sound-command}
 use Rattle.plain.proofs.FactsHold.{meter-holds, sound-holds, idle-holds}
 use Rattle.plain.proofs.Ladder.{by-ladder}
-use Rattle.plain.proofs.Quick.{wait-taken}
 use Rattle.plain.proofs.Register.{ground-sound}
 use Rattle.plain.proofs.SoundTime.{ticks-going, ticks-clock}
 use Rattle.history.proofs.KeptWrite.{never, Fine, goes, starts, protects, falls, stays, drops, written-fine}
@@ -88,7 +87,7 @@ module _ (p : Part) (r : Device) (s : sound p r ≡ true) (l : Lent) where
 
   wait-kept : (n : ℕ) → Kept p (waitEvent p r l n)
   unfolding waitEvent number
-  wait-kept n = kept _ Clock _ refl (λ _ h. rw (wait-taken p r l n s) (waits (leb-true _ _ (not-false _ h))))
+  wait-kept n = kept _ Clock _ refl (λ _ h. waits (leb-true _ _ (not-false _ h)))
     where
       after : Moment
       after = ticks p n (now r l)

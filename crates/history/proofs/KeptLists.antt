@@ -1,10 +1,10 @@
 -- Erase lists as writes and time make them.
 use Prim.Native.Nat.{ℕ, _<_, _≤_, min}
 use mathlib.Core.Path.{_≡_, refl, sym, ap, _∙_}
-use mathlib.Core.Bool.{Bool, true, false, _&&_, _||_, not}
+use mathlib.Core.Bool.{Bool, true, false, _||_}
 use native.Mathlib.Omega.{arith}
 use lib.Dec.{ltb, eqb}
-use borrow.Author.Tests.{ltb-true, eqb-true, eq-eqb, ne-eqb, not-true, not-false}
+use borrow.Author.Tests.{ltb-true, eqb-true, eq-eqb, ne-eqb, not-false}
 use Rattle.blocks.specs.declared.Blocks.{Blocks}
 use Rattle.blocks.specs.Blocks.{has, some, emptyOf, withOf, firstFrom}
 use Rattle.blocks.proofs.Laws.{some-none, has-empty, has-with}
@@ -18,6 +18,7 @@ use Rattle.protection.proofs.Laws.{has-unprotected}
 use Rattle.plain.specs.declared.Erase.{Erase}
 use Rattle.plain.specs.Figures.{windowTime, chipTime}
 use Rattle.plain.specs.Record.{erase}
+use Rattle.plain.specs.Sound.{erasable, mayChipErase}
 use Rattle.plain.proofs.Tools.{both-left, both-right, by-cases, by-order, clash}
 use Rattle.plain.proofs.Facts.{EraseFacts, BlockEraseFacts}
 use Rattle.plain.proofs.FigureLaws.{window-some, chip-some}
@@ -38,7 +39,7 @@ with-other p s b n l d = rw (has-with s b n (omega (arith, blocks-most p)), ne-e
 -- may the block stand on a list with this one in hand?
 record Erasable (p : Part) (bits : Protection) (hand b : ℕ) : Type 0 where
   below : b < blockCount p
-  unprotected : protected bits b ≡ false
+  erasable : erasable bits b ≡ true
   one-bank : bankOfBlock p b ≡ bankOfBlock p hand
 
 module _ (p : Part) (bits : Protection) (list : Blocks) (b hand : ℕ) (six two : Bool) where
@@ -49,7 +50,7 @@ module _ (p : Part) (bits : Protection) (list : Blocks) (b hand : ℕ) (six two 
         erase = record {
           hand-listed = listed;
           below = λ n h. each n h .below;
-          unprotected = λ n h. each n h .unprotected;
+          erasable = λ n h. each n h .erasable;
           some-left = window-some p;
           most-left = omega arith;
         };
@@ -63,7 +64,7 @@ module _ (p : Part) (bits : Protection) (list : Blocks) (b hand : ℕ) (six two 
 pub opened : (p : Part) (bits : Protection) (b : ℕ) → b < blockCount p → protected bits b ≡ false
     → BlockEraseFacts p bits (erase (withOf emptyOf b) b (windowTime p) false false) (windowTime p)
 opened p bits b l free =
-    with-facts p bits emptyOf b b false false (with-here p emptyOf b l) (record { below = l; unprotected = free; one-bank = refl })
+    with-facts p bits emptyOf b b false false (with-here p emptyOf b l) (record { below = l; erasable = rw free; one-bank = refl })
     (λ n h. clash h (has-empty n))
 
 pub opened-low : (p : Part) (b n : ℕ) → b < blockCount p → n < b → has (withOf emptyOf b) n ≡ false
@@ -86,8 +87,8 @@ module _ (p : Part) (bits : Protection) (e : Erase) (b : ℕ) (l : b < blockCoun
       in-hand : (hand : ℕ) → has (withOf (e .list) b) hand ≡ true → bankOfBlock p (e .hand) ≡ bankOfBlock p hand
           → BlockEraseFacts p bits (erase (withOf (e .list) b) hand (windowTime p) (e .dq6) (e .dq2)) (windowTime p)
       in-hand hand listed same =
-          with-facts p bits (e .list) b hand (e .dq6) (e .dq2) listed (record { below = l; unprotected = free; one-bank = bank ∙ same })
-          (λ n h. record { below = f .erase .below n h; unprotected = f .erase .unprotected n h; one-bank = f .one-bank n h ∙ same })
+          with-facts p bits (e .list) b hand (e .dq6) (e .dq2) listed (record { below = l; erasable = rw free; one-bank = bank ∙ same })
+          (λ n h. record { below = f .erase .below n h; erasable = f .erase .erasable n h; one-bank = f .one-bank n h ∙ same })
 
 pub added-low : (p : Part) (e : Erase) (b : ℕ) → b < blockCount p → ((n : ℕ) → n < e .hand → has (e .list) n ≡ false)
     → (n : ℕ) → n < min (e .hand) b → has (withOf (e .list) b) n ≡ false
@@ -101,7 +102,7 @@ chip-opened p bits some-free =
     record {
       hand-listed = first-has list 0 found;
       below = λ b h. ltb-true _ _ (both-left (ltb b (blockCount p)) _ (may b h));
-      unprotected = λ b h. not-true (protected bits b) (both-right (ltb b (blockCount p)) _ (may b h));
+      erasable = λ b h. both-right (ltb b (blockCount p)) _ (may b h);
       some-left = chip-some p;
       most-left = omega arith;
     }
@@ -114,5 +115,5 @@ chip-opened p bits some-free =
         by-order (firstFrom list 0) 320 (λ h. h)
         (λ h. clash (not-false (some (has list) 320) some-free) (some-none (has list) 320 (λ n l. first-none list 0 n (omega arith) (omega (arith, h, l)))))
 
-    may : (b : ℕ) → has list b ≡ true → (ltb b (blockCount p) && not (protected bits b)) ≡ true
+    may : (b : ℕ) → has list b ≡ true → mayChipErase p bits b ≡ true
     may b h = sym (has-unprotected p bits b) ∙ h

@@ -1,7 +1,7 @@
 -- Every write of a sound record has a fine effect: one that leaves the record sound.
 use Prim.Native.Nat.{ℕ, _<_, min}
 use mathlib.Core.Path.{_≡_, refl, sym, _∙_}
-use mathlib.Core.Bool.{Bool, true, false, _&&_, _||_, not}
+use mathlib.Core.Bool.{Bool, true, false, _&&_, not}
 use native.Mathlib.Omega.{arith}
 use lib.Dec.{ltb, eqb}
 use borrow.Author.Tests.{lt-ltb, eqb-true, not-false}
@@ -44,9 +44,9 @@ use Rattle.plain.proofs.SoundTime.{closed}
 use Rattle.history.proofs.KeptRegister.{early, late, not-suspended, may-program}
 use Rattle.history.proofs.KeptLists.{opened, opened-low, added, added-low, chip-opened}
 
--- no sound record is answered STATE or INNER
+-- no sound record is answered STATE
 abbrev pub never : Refusal → Bool
-never n = eqb (number n) 1 || eqb (number n) 12
+never n = eqb (number n) 1
 
 -- what an effect must be, so that the record it is applied to stays sound
 pub data Fine (p : Part) (bits : Protection) (o : Operation) : Effect → Type 0 where

@@ -26,7 +26,6 @@ use Rattle.plain.specs.History.{Fact, Told, kind, unheard, cuts, wroteAs, waite
 use Rattle.plain.proofs.Tools.{by-test}
 use Rattle.plain.proofs.Facts.{sound-operation}
 use Rattle.plain.proofs.Ladder.{by-ladder}
-use Rattle.plain.proofs.Quick.{wait-taken}
 use Rattle.history.proofs.Seen.{seenOp, seen, polled-seen, rested-seen}
 use Rattle.history.proofs.Holds.{Holds}
 use Rattle.history.proofs.Writes.{write-told}
@@ -93,7 +92,7 @@ module _ (p : Part) (start : Lent) where
     unfolding step readEvent writeEvent waitEvent cutEvent kind
     stepped (read a) = climbs (read a) _ Address _ refl (λ f t. read-step a _ _ (look-seen p (r .bits) (r .command) (r .operation) l a))
     stepped (write a w) = climbs (write a w) _ Address _ refl (λ f t. write-step a w)
-    stepped (wait n) = climbs (wait n) _ Clock _ refl (λ f t. rw (wait-taken p r l n (f .sound)) (wait-step n f))
+    stepped (wait n) = climbs (wait n) _ Clock _ refl (λ f t. wait-step n f)
     stepped (cut debris) =
         climbs (cut debris) _ Debris _ refl (λ f t. cut-step debris f (ltb-false (length debris) (debrisNeeded p (r .operation)) t))
 

@@ -18,7 +18,6 @@ use Rattle.plain.specs.Machine.{Outcome, ladder, now, readEvent, writeEvent, wa
 use Rattle.plain.proofs.Facts.{sound-operation}
 use Rattle.plain.proofs.CutCells.{length-cut}
 use Rattle.plain.proofs.Ladder.{by-ladder}
-use Rattle.plain.proofs.Quick.{wait-taken}
 use Rattle.history.proofs.Times.{waited-told}
 use Rattle.history.proofs.Kept.{always-sound, cut-accepted, cut-refused}
 
@@ -37,7 +36,7 @@ module _ (p : Part) (r : Device) (l : Lent) where
   step-long (write a w) = climbs _ Address _ (λ _ _. refl)
   step-long (wait n) =
       climbs _ Clock _
-      (λ f _. rw (wait-taken p r l n (f .sound)) (waited-told p l (r .command) (r .bits) n (now r l) [] (sound-operation p r (f .sound) (r .operation) refl) (f .whole) .size))
+      (λ f _. waited-told p l (r .command) (r .bits) n (now r l) [] (sound-operation p r (f .sound) (r .operation) refl) (f .whole) .size)
   step-long (cut debris) =
       climbs _ Debris _ (λ f t. length-cut p (r .operation) debris l (f .whole) (ltb-false (length debris) (debrisNeeded p (r .operation)) t))
 

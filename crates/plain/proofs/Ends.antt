@@ -2,9 +2,12 @@
 use Prim.Native.Nat.{ℕ, zero, suc}
 use mathlib.Core.Path.{_≡_, refl}
 use mathlib.Core.Bool.{Bool, true, false, _&&_, _||_, and-false}
+use borrow.Author.Tests.{not-true}
+use Rattle.blocks.specs.Blocks.{has, pack, setOf, some}
 use Rattle.geometry.specs.declared.Part.{Part}
+use Rattle.geometry.specs.Parts.{unitOf, blockIn}
 use Rattle.protection.specs.declared.Protection.{Protection}
-use Rattle.protection.specs.Protection.{protected}
+use Rattle.protection.specs.Protection.{protected, protectedBy}
 use Rattle.plain.specs.declared.Erase.{Erase}
 use Rattle.plain.specs.declared.Inside.{Inside}
 use Rattle.plain.specs.declared.Inside.the-variants.{Nothing, Runs}
@@ -12,14 +15,21 @@ use Rattle.plain.specs.declared.SuspendedErase.{SuspendedErase}
 use Rattle.plain.specs.declared.Operation.{Operation}
 use Rattle.plain.specs.declared.Operation.the-variants.{Idle, Programming, ProgramSuspended, Window, Erasing, EraseSuspended, ChipErasing}
 use Rattle.plain.specs.Operations.{runningOf, runningInside}
-use Rattle.plain.specs.Sound.{operationSound}
-use Rattle.plain.specs.Time.{Moment, last, tick, endsProtected, someEndProtected}
-use Rattle.plain.proofs.Facts.{EraseFacts, programming, erasing, chip-erasing, inside-runs}
+use Rattle.plain.specs.Ends.{endsProtected, someEndProtected, Met, NeverEndsProtected}
+use Rattle.plain.specs.Machine.{now}
+use Rattle.plain.specs.Programs.{blockWritten}
+use Rattle.plain.specs.Sound.{erasable, operationSound}
+use Rattle.plain.specs.Time.{Moment, last, insideTick, operationTick, tick}
+use Rattle.plain.proofs.Facts.{sound-operation, EraseFacts, programming, erasing, chip-erasing, inside-runs}
 use Rattle.plain.proofs.SoundTime.{tick-fit}
+
+-- what may be listed is not protected
+pub erasable-free : (bits : Protection) (b : ℕ) → erasable bits b ≡ true → protected bits b ≡ false
+erasable-free bits b h = not-true (protected bits b) h
 
 module _ (p : Part) (bits : Protection) where
   hand-free : (e : Erase) (full : ℕ) → EraseFacts p bits e full → (last (e .left) && protected bits (e .hand)) ≡ false
-  hand-free e full f = rw (f .unprotected (e .hand) (f .hand-listed)) (and-false (last (e .left)))
+  hand-free e full f = rw (erasable-free bits (e .hand) (f .erasable (e .hand) (f .hand-listed))) (and-false (last (e .left)))
 
   inside-free : (s : SuspendedErase) (i : Inside) → s .inside ≡ i → operationSound p bits (EraseSuspended s) ≡ true → endsProtected p bits (runningInside i) ≡ false
   unfolding runningInside endsProtected
@@ -36,7 +46,15 @@ module _ (p : Part) (bits : Protection) where
   ends-free (EraseSuspended x) s = inside-free x (x .inside) refl s
   ends-free (ChipErasing e) s = hand-free e _ (chip-erasing p bits e s)
 
-  pub none-ends : (n : ℕ) (m : Moment) → operationSound p bits (m .operation) ≡ true → someEndProtected p bits n m ≡ false
+  none-ends : (n : ℕ) (m : Moment) → operationSound p bits (m .operation) ≡ true → someEndProtected p bits n m ≡ false
   unfolding someEndProtected tick
   none-ends zero m s = refl
   none-ends (suc n) m s = rw (ends-free (m .operation) s) (none-ends n (tick p m) (tick-fit p bits (m .operation) s))
+
+pub never-ends-protected : (p : Part) → NeverEndsProtected p
+never-ends-protected p r l n s = none-ends p (r .bits) n (now r l) (sound-operation p r s (r .operation) refl)
+
+-- the condition is about something
+pub met : Met
+unfolding someEndProtected endsProtected runningOf runningInside operationTick insideTick tick blockWritten protectedBy has pack setOf some unitOf blockIn
+met l = (refl, refl)

@@ -1,6 +1,6 @@
 -- The four events, answer by answer: what each comes to once the tests on the way are known.
 use Prim.Native.Nat.{ℕ, _+_, _<_, _≤_}
-use mathlib.Core.Path.{_≡_, refl, _∙_}
+use mathlib.Core.Path.{_≡_}
 use mathlib.Core.List.{List}
 use lib.ListN.{length}
 use borrow.Author.Tests.{lt-ltb, le-ltb, le-leb, lt-leb}
@@ -16,7 +16,6 @@ use Rattle.plain.specs.Time.{ticks}
 use Rattle.plain.specs.Cut.{debrisNeeded}
 use Rattle.plain.specs.Machine.{refused, entry, Fit, now, waited, readTaken, writeTaken, cutTaken, readEvent, writeEvent, waitEvent, cutEvent}
 use Rattle.plain.proofs.Ladder.{entry-admitted, ladder-barred, ladder-own, ladder-taken}
-use Rattle.plain.proofs.Quick.{wait-taken}
 
 module _ (p : Part) (r : Device) (l : Lent) where
   module _ (a : ℕ) where
@@ -57,7 +56,7 @@ module _ (p : Part) (r : Device) (l : Lent) where
     pub wait-passes : Fit p r l → r .meter .clock + n ≤ clockLimit p → waitEvent p r l n ≡ waited r (ticks p n (now r l))
     unfolding waitEvent
     wait-passes f h =
-        ladder-taken p r l _ Clock _ (entry-admitted p r l f) (rw (le-leb (r .meter .clock + n) (clockLimit p) h)) ∙ wait-taken p r l n (f .sound)
+        ladder-taken p r l _ Clock _ (entry-admitted p r l f) (rw (le-leb (r .meter .clock + n) (clockLimit p) h))
 
   module _ (debris : List ℕ) where
     pub cut-barred : (n : Refusal) → entry p r l ≡ Barred n → cutEvent p r l debris ≡ refused n r l

@@ -23,7 +23,7 @@ use Rattle.plain.specs.Figures.{programTime, windowTime, eraseTime, chip
 use Rattle.plain.specs.Operations.{runningOf, suspensionOf}
 use Rattle.plain.specs.Programs.{liesIn, blockWritten}
 use Rattle.plain.specs.Record.{fresh}
-use Rattle.plain.specs.Sound.{meterSound, timeSound, programSound, mayErase, mayChipErase, listSound, chipListSound, lowest, insideSound, operationSound, isStill, stillCommand, commandSound, sound}
+use Rattle.plain.specs.Sound.{meterSound, timeSound, programSound, erasable, mayErase, mayChipErase, listSound, chipListSound, lowest, insideSound, operationSound, isStill, stillCommand, commandSound, sound}
 use Rattle.plain.proofs.Tools.{both-left, both-right, clash}
 use Rattle.plain.proofs.Lists.{only-at}
 
@@ -102,7 +102,7 @@ program-suspended = program-facts
 pub record EraseFacts (p : Part) (bits : Protection) (e : Erase) (full : ℕ) : Type 0 where
   pub hand-listed : has (e .list) (e .hand) ≡ true
   pub below : (b : ℕ) → has (e .list) b ≡ true → b < blockCount p
-  pub unprotected : (b : ℕ) → has (e .list) b ≡ true → protected bits b ≡ false
+  pub erasable : (b : ℕ) → has (e .list) b ≡ true → erasable bits b ≡ true
   pub some-left : 1 ≤ e .left
   pub most-left : e .left ≤ full
 
@@ -120,7 +120,7 @@ erase-facts p bits e full hand may time =
     record {
       hand-listed = hand;
       below = λ b h. ltb-true _ _ (both-left (ltb b (blockCount p)) _ (may b h));
-      unprotected = λ b h. not-true (protected bits b) (both-right (ltb b (blockCount p)) _ (may b h));
+      erasable = λ b h. both-right (ltb b (blockCount p)) _ (may b h);
       some-left = leb-true _ _ (both-left (leb 1 (e .left)) _ time);
       most-left = leb-true _ _ (both-right (leb 1 (e .left)) _ time);
     }

@@ -54,7 +54,7 @@ module _ (p : Part) (bits : Protection) where
   list-holds e full f =
       both _ _ (f .erase .hand-listed)
       (only-make (mayErase p bits (e .hand)) (e .list)
-      (λ b l h. both _ _ (lt-ltb _ _ (f .erase .below b h)) (both _ _ (eq-eqb _ _ (f .one-bank b h)) (clear _ (f .erase .unprotected b h)))))
+      (λ b l h. both _ _ (lt-ltb _ _ (f .erase .below b h)) (both _ _ (eq-eqb _ _ (f .one-bank b h)) (f .erase .erasable b h))))
 
   pub idle-holds : operationSound p bits Idle ≡ true
   unfolding operationSound
@@ -88,5 +88,5 @@ module _ (p : Part) (bits : Protection) where
   unfolding operationSound chipListSound
   chip-holds e f =
       both _ _
-      (both _ _ (f .hand-listed) (only-make (mayChipErase p bits) (e .list) (λ b l h. both _ _ (lt-ltb _ _ (f .below b h)) (clear _ (f .unprotected b h)))))
+      (both _ _ (f .hand-listed) (only-make (mayChipErase p bits) (e .list) (λ b l h. both _ _ (lt-ltb _ _ (f .below b h)) (f .erasable b h))))
       (time-holds (e .left) (chipTime p) (f .some-left) (f .most-left))

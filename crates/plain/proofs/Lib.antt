@@ -1,4 +1,5 @@
 pub mod Tools
+pub mod Refusals
 pub mod FigureLaws
 pub mod Programs
 pub mod Ladder

@@ -1,22 +1,16 @@
 -- The plain machine with waits in leaps: equal to it, and quick enough to compute worked rows by.
 use Prim.Native.Nat.{ℕ, _+_}
 use mathlib.Core.Path.{_≡_, refl, ap}
-use mathlib.Core.Bool.{Bool, true, false, not}
+use mathlib.Core.Bool.{not}
 use mathlib.Core.List.{List, [], _∷_}
 use lib.Dec.{leb}
 use Rattle.geometry.specs.declared.Part.{Part}
-use Rattle.plain.specs.declared.Refusal.the-variants.{Clock, Inner}
+use Rattle.plain.specs.declared.Refusal.the-variants.{Clock}
 use Rattle.plain.specs.declared.Device.{Device}
-use Rattle.plain.specs.Choice.{if_then_else_}
 use Rattle.plain.specs.Events.{Event, read, write, wait, cut, Turn}
 use Rattle.plain.specs.Figures.{clockLimit}
 use Rattle.plain.specs.Lent.{Lent}
-use Rattle.plain.specs.Sound.{sound}
-use Rattle.plain.specs.Time.{ticks, someEndProtected}
-use Rattle.plain.specs.Machine.{Outcome, Ran, refused, climbed, ladder, entry, now, waited, waitTaken, readEvent, writeEvent, waitEvent, cutEvent, step, run}
-use Rattle.plain.proofs.Ends.{none-ends}
-use Rattle.plain.proofs.Facts.{sound-operation}
-use Rattle.plain.proofs.Ladder.{by-entry, entry-state, entry-cells}
+use Rattle.plain.specs.Machine.{Outcome, Ran, ladder, now, waited, readEvent, writeEvent, waitEvent, cutEvent, step, run}
 use Rattle.plain.proofs.Leaps.{leap, leap-ticks}
 
 -- a chip erase has at most 270 happenings, and a wait may end after them
@@ -26,18 +20,9 @@ fuel = 272
 unfoldable pub quickWait : Part → Device → Lent → ℕ → Outcome
 quickWait p r l n = ladder p r l (not (leb (r .meter .clock + n) (clockLimit p))) Clock (waited r (leap p fuel n (now r l)))
 
--- INNER is never met on a sound record
-pub never-inner : (p : Part) (r : Device) (l : Lent) (n : ℕ) → sound p r ≡ true → someEndProtected p (r .bits) n (now r l) ≡ false
-never-inner p r l n s = none-ends p (r .bits) n (now r l) (sound-operation p r s (r .operation) refl)
-
-pub wait-taken : (p : Part) (r : Device) (l : Lent) (n : ℕ) → sound p r ≡ true → waitTaken p r l n ≡ waited r (ticks p n (now r l))
-wait-taken p r l n s = rw (never-inner p r l n s)
-
 pub quick-wait : (p : Part) (r : Device) (l : Lent) (n : ℕ) → waitEvent p r l n ≡ quickWait p r l n
-unfolding waitEvent quickWait ladder climbed
-quick-wait p r l n =
-    by-entry p r l (λ s. rw (entry-state p r l s)) (λ s k. rw (entry-cells p r l s k))
-    (λ f. rw (wait-taken p r l n (f .sound), leap-ticks p fuel n (now r l)))
+unfolding waitEvent quickWait
+quick-wait p r l n = rw (leap-ticks p fuel n (now r l))
 
 unfoldable pub quickStep : Part → Device → Lent → Event → Outcome
 quickStep p r l (read a) = readEvent p r l a

@@ -36,7 +36,7 @@ use Rattle.plain.proofs.Register.{ran}
 
 module _ (p : Part) (bits : Protection) (e : Erase) (hand left full : ℕ) (listed : has (e .list) hand ≡ true) (h : 1 ≤ left) (g : left ≤ full) (was : ℕ) where
   chip-anew : EraseFacts p bits e was → EraseFacts p bits (erase (e .list) hand left (e .dq6) (e .dq2)) full
-  chip-anew f = record { hand-listed = listed; below = f .below; unprotected = f .unprotected; some-left = h; most-left = g }
+  chip-anew f = record { hand-listed = listed; below = f .below; erasable = f .erasable; some-left = h; most-left = g }
 
   erase-anew : BlockEraseFacts p bits e was → BlockEraseFacts p bits (erase (e .list) hand left (e .dq6) (e .dq2)) full
   erase-anew f =

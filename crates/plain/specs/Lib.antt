@@ -13,6 +13,7 @@ pub mod Time
 pub mod Status
 pub mod Cut
 pub mod Machine
+pub mod Ends
 pub mod Bench
 pub mod History
 pub mod Promises

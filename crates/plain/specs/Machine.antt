@@ -8,7 +8,7 @@ use lib.ListN.{length}
 use Rattle.geometry.specs.declared.Part.{Part}
 use Rattle.geometry.specs.Parts.{wordCount}
 use Rattle.plain.specs.declared.Refusal.{Refusal}
-use Rattle.plain.specs.declared.Refusal.the-variants.{Done, State, Cells, Address, Clock, Debris, Inner}
+use Rattle.plain.specs.declared.Refusal.the-variants.{Done, State, Cells, Address, Clock, Debris}
 use Rattle.plain.specs.declared.Device.{Device}
 use Rattle.plain.specs.declared.Answer.{Answer}
 use Rattle.plain.specs.declared.Entry.{Entry}
@@ -20,7 +20,7 @@ use Rattle.plain.specs.Lent.{Lent, isWhole}
 use Rattle.plain.specs.Record.{device, answer}
 use Rattle.plain.specs.Sound.{sound}
 use Rattle.plain.specs.Commands.{written, effected}
-use Rattle.plain.specs.Time.{Moment, moment, ticks, someEndProtected}
+use Rattle.plain.specs.Time.{Moment, moment, ticks}
 use Rattle.plain.specs.Status.{look}
 use Rattle.plain.specs.Cut.{debrisNeeded, cutLent, cutDevice}
 
@@ -73,19 +73,15 @@ writeTaken p r l a w = outcome (effected r (written p (r .bits) (r .operation) (
 unfoldable pub writeEvent : Part → Device → Lent → (address word : ℕ) → Outcome
 writeEvent p r l a w = ladder p r l (not (ltb a (wordCount p))) Address (writeTaken p r l a w)
 
--- "Only a wait takes time." INNER is judged last, over the whole wait
+-- "Only a wait takes time."
 abbrev pub now : Device → Lent → Moment
 now r l = moment (r .meter) (r .operation) l
 
 abbrev pub waited : Device → Moment → Outcome
 waited r m = outcome (answer Done 0 (device (m .meter) (r .command) (m .operation) (r .bits))) (m .lent)
 
-abbrev pub waitTaken : Part → Device → Lent → (microseconds : ℕ) → Outcome
-waitTaken p r l n =
-    if someEndProtected p (r .bits) n (now r l) then refused Inner r l else waited r (ticks p n (now r l))
-
 unfoldable pub waitEvent : Part → Device → Lent → (microseconds : ℕ) → Outcome
-waitEvent p r l n = ladder p r l (not (leb (r .meter .clock + n) (clockLimit p))) Clock (waitTaken p r l n)
+waitEvent p r l n = ladder p r l (not (leb (r .meter .clock + n) (clockLimit p))) Clock (waited r (ticks p n (now r l)))
 
 abbrev pub cutTaken : Part → Device → Lent → (debris : List ℕ) → Outcome
 cutTaken p r l debris = outcome (answer Done 0 (cutDevice r)) (cutLent p (r .operation) debris l)

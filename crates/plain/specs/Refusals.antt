@@ -1,7 +1,8 @@
--- Document 01, "Refusals by number": the number of each answer.
+-- Document 01, "Refusals by number": the number of each answer. Number 12 was that of a condition that nothing meets (Ends).
 use Prim.Native.Nat.{ℕ}
+use mathlib.Core.Path.{_≡_}
 use Rattle.plain.specs.declared.Refusal.{Refusal}
-use Rattle.plain.specs.declared.Refusal.the-variants.{Done, State, Cells, Address, Clock, Debris, Busy, Sequence, Bank, Protected, Suspended, Locked, Inner}
+use Rattle.plain.specs.declared.Refusal.the-variants.{Done, State, Cells, Address, Clock, Debris, Busy, Sequence, Bank, Protected, Suspended, Locked}
 
 unfoldable pub number : Refusal → ℕ
 number Done = 0
@@ -16,4 +17,7 @@ number Bank = 8
 number Protected = 9
 number Suspended = 10
 number Locked = 11
-number Inner = 12
+
+-- "Number 12 stays unused." (document 02, request 12)
+abbrev pub TwelveUnused : Type 0
+TwelveUnused = (n : Refusal) → number n ≡ 12 → ⊥

@@ -44,12 +44,16 @@ unfoldable pub programSound : Part → Protection → Program → Bool
 programSound p bits q =
     liesIn p (q .writes) && (timeSound (q .left) (programTime p) && not (protected bits (blockWritten p (q .writes))))
 
--- "block numbers are in range; an erase list .. lies in one bank (a chip erase may span all), and holds no protected block"
+-- "an erase list .. holds no protected block"
+abbrev pub erasable : Protection → (b : ℕ) → Bool
+erasable bits b = not (protected bits b)
+
+-- "block numbers are in range; an erase list .. lies in one bank (a chip erase may span all)"
 abbrev pub mayErase : Part → Protection → (hand b : ℕ) → Bool
-mayErase p bits hand b = ltb b (blockCount p) && (eqb (bankOfBlock p b) (bankOfBlock p hand) && not (protected bits b))
+mayErase p bits hand b = ltb b (blockCount p) && (eqb (bankOfBlock p b) (bankOfBlock p hand) && erasable bits b)
 
 abbrev pub mayChipErase : Part → Protection → (b : ℕ) → Bool
-mayChipErase p bits b = ltb b (blockCount p) && not (protected bits b)
+mayChipErase p bits b = ltb b (blockCount p) && erasable bits b
 
 -- does every number of the set pass the test?
 abbrev pub onlyThose : (ℕ → Bool) → Blocks → Bool

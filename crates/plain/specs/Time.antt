@@ -1,6 +1,6 @@
 -- Time and charge (document 01, "Time, charge and the cells"), a microsecond after the other: a wait of n is n of them.
 use Prim.Native.Nat.{ℕ, zero, suc, _-_}
-use mathlib.Core.Bool.{Bool, true, false, _&&_, _||_}
+use mathlib.Core.Bool.{Bool}
 use lib.Dec.{leb, ltb}
 use Rattle.blocks.specs.Blocks.{firstFrom}
 use Rattle.cells.specs.Cells.{erased}
@@ -8,8 +8,6 @@ use Rattle.geometry.specs.declared.Part.{Part}
 use Rattle.geometry.specs.Parts.{blockCount, firstOf, sizeOf}
 use Rattle.meter.specs.declared.Meter.{Meter}
 use Rattle.meter.specs.Meter.{metered}
-use Rattle.protection.specs.declared.Protection.{Protection}
-use Rattle.protection.specs.Protection.{protected}
 use Rattle.plain.specs.declared.Program.{Program}
 use Rattle.plain.specs.declared.Erase.{Erase}
 use Rattle.plain.specs.declared.Inside.{Inside}
@@ -22,7 +20,7 @@ use Rattle.plain.specs.Choice.{if_then_else_}
 use Rattle.plain.specs.Figures.{eraseTime, chipTime, runningCurrent, standbyCurrent}
 use Rattle.plain.specs.Lent.{Lent, withCells}
 use Rattle.plain.specs.Operations.{runningOf}
-use Rattle.plain.specs.Programs.{blockWritten, finished}
+use Rattle.plain.specs.Programs.{finished}
 use Rattle.plain.specs.Record.{programLeft, eraseLeft, erase, suspended}
 
 -- what time changes: the meter, the operation and what is lent
@@ -95,18 +93,3 @@ tick p m =
 unfoldable pub ticks : Part → ℕ → Moment → Moment
 ticks p zero m = m
 ticks p (suc n) m = ticks p n (tick p m)
-
--- ---- "12 INNER: an operation ends in a block then protected"
-
--- does this microsecond end one so?
-unfoldable pub endsProtected : Part → Protection → Running → Bool
-endsProtected p bits Still = false
-endsProtected p bits (Programs q) = last (q .left) && protected bits (blockWritten p (q .writes))
-endsProtected p bits (Waits e) = false
-endsProtected p bits (Erases e) = last (e .left) && protected bits (e .hand)
-endsProtected p bits (ErasesChip e) = last (e .left) && protected bits (e .hand)
-
--- does one of n microseconds?
-unfoldable pub someEndProtected : Part → Protection → ℕ → Moment → Bool
-someEndProtected p bits zero m = false
-someEndProtected p bits (suc n) m = endsProtected p bits (runningOf (m .operation)) || someEndProtected p bits n (tick p m)

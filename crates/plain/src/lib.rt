@@ -19,7 +19,6 @@ pub enum Refusal {
     Protected,
     Suspended,
     Locked,
-    Inner,
 }
 
 // What a program writes: "address and all 16 data bits". Who asks of it goes by Programs, and takes it apart nowhere else.

@@ -1,5 +1,5 @@
 use native.Mathlib.Omega.{arith}
-use Rattle.face.proofs.Faces.{number-small}
+use Rattle.plain.proofs.Refusals.{number-below}
 use borrow.Author.Needs.{needs}
 use Rattle.calls.proofs.packed.Statement.{statement}
 use Rattle.calls.proofs.packed.Tie as tie
@@ -9,6 +9,6 @@ packed-spec =
     tie.close
     (tie.spec
     (λ c κs. search needs)  -- number-of-requires
-    (λ c. omega (arith, c .number-of .ensures, number-small (c .before .args .refusal)))  -- mul-result
-    (λ c. omega (arith, c .number-of .ensures, number-small (c .before .args .refusal)))  -- add-result
+    (λ c. omega (arith, c .number-of .ensures, number-below (c .before .args .refusal)))  -- mul-result
+    (λ c. omega (arith, c .number-of .ensures, number-below (c .before .args .refusal)))  -- add-result
     (λ c. rw (c .number-of .ensures)))  -- returns

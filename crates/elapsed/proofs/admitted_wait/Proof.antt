@@ -1,10 +1,8 @@
-use mathlib.Core.Path.{refl, _∙_}
+use mathlib.Core.Path.{_∙_}
 use native.Mathlib.Omega.{arith}
 use borrow.Author.Needs.{needs}
 use Rattle.plain.proofs.EventLaws.{wait-clock, wait-passes}
-use Rattle.plain.proofs.Facts.{sound-clock, sound-operation}
-use Rattle.plain.proofs.Tools.{clash}
-use Rattle.inner.proofs.Free.{holds-free}
+use Rattle.plain.proofs.Facts.{sound-clock}
 use Rattle.answers.proofs.Outcomes.{answers, leaves}
 use Rattle.elapsed.specs.Lapses.{lapsed}
 use Rattle.elapsed.proofs.Passable.{passable}
@@ -19,17 +17,14 @@ admitted-wait-spec =
     (λ c κs. search needs)  -- clock-limit-requires
     (λ c. rw (c .before .clock-limit .ensures) (sound-clock _ _ (c .before .before .before .before .pre .sound)))  -- sub-if1
     (λ c.
-    let limit = sound-clock _ _ (c .before .before .before .before .before .pre .sound) in
-    let same = wait-clock _ _ _ _ (c .before .before .before .before .before .pre) (omega (arith, limit, rw (c .before .before .clock-limit .ensures) at (c .if1 .taken))) in
+    let fit = c .before .before .before .before .before .pre in
+    let same = wait-clock _ _ _ _ fit (omega (arith, sound-clock _ _ (fit .sound), rw (c .before .before .clock-limit .ensures) at (c .if1 .taken))) in
     (answers same, leaves same))  -- returns
-    (λ c κs. search needs)  -- running-of-requires
-    (λ c κs. search needs)  -- holds-protected-requires
-    (λ c. clash (c .if2 .taken) (c .before .holds-protected .ensures ∙ rw (c .before .before .running-of .ensures) (holds-free _ _ _ (sound-operation _ _ (c .before .before .before .before .before .before .before .before .before .pre .sound) _ refl))))  -- returns-2
     (λ c κs.
-    let limit = sound-clock _ _ (c .before .before .before .before .before .before .before .before .before .before .pre .sound) in
-    passable _ _ _ _ (c .before .before .before .before .before .before .before .before .before .before .pre) (omega (arith, limit, rw (c .before .before .before .before .before .before .before .clock-limit .ensures) at (c .before .before .before .before .before .if1 .left))))  -- pass-requires
+    let fit = c .before .before .before .before .before .before .pre in
+    passable _ _ _ _ fit (omega (arith, sound-clock _ _ (fit .sound), rw (c .before .before .before .clock-limit .ensures) at (c .before .if1 .left))))  -- pass-requires
     (λ c. search needs)  -- same-length
     (λ c.
-    let limit = sound-clock _ _ (c .before .before .before .before .before .before .before .before .before .before .before .before .before .pre .sound) in
-    let same = wait-passes _ _ _ _ (c .before .before .before .before .before .before .before .before .before .before .before .before .before .pre) (omega (arith, limit, rw (c .before .before .before .before .before .before .before .before .before .before .clock-limit .ensures) at (c .before .before .before .before .before .before .before .before .if1 .left))) in
-    (rw (c .before .before .pass .ensures .0) (answers same), c .before .before .pass .ensures .1 ∙ leaves same)))  -- returns-3
+    let fit = c .before .before .before .before .before .before .before .before .before .pre in
+    let same = wait-passes _ _ _ _ fit (omega (arith, sound-clock _ _ (fit .sound), rw (c .before .before .before .before .before .before .clock-limit .ensures) at (c .before .before .before .before .if1 .left))) in
+    (rw (c .before .before .pass .ensures .0) (answers same), c .before .before .pass .ensures .1 ∙ leaves same)))  -- returns-2

@@ -1,4 +1,4 @@
-use Rattle.telling.proofs.Numbers.{below-13}
+use Rattle.plain.proofs.Refusals.{number-below}
 use borrow.Author.Needs.{needs}
 use Rattle.telling.proofs.event.Statement.{statement}
 use Rattle.telling.proofs.event.Tie as tie
@@ -10,7 +10,7 @@ event-spec =
     (λ c κs. search needs)  -- decimal-requires
     (λ c κs. search needs)  -- number-of-requires
     (λ c κs. search needs)  -- number-requires
-    (λ c κs. (search needs, rw (c .before .before .before .number-of .ensures) (below-13 (c .before .before .before .before .before .before .args .refusal))))  -- name-requires
+    (λ c κs. (search needs, rw (c .before .before .before .number-of .ensures) (number-below (c .before .before .before .before .before .before .args .refusal))))  -- name-requires
     (λ c κs. search needs)  -- word-requires
     (λ c κs. search needs)  -- number-requires-2
     (λ c κs. search needs)  -- number-requires-3

@@ -4,7 +4,7 @@ use Rattle.telling.proofs.refusals.name.Statement.{statement}
 use Rattle.telling.proofs.refusals.name.Tie as tie
 
 abbrev Inv-loop : tie.InvT-loop
-Inv-loop line₀ at number names from i₀ line i = (from ≤ 108) × (i ≤ 9)
+Inv-loop line₀ at number names from i₀ line i = (from ≤ 99) × (i ≤ 9)
 
 abbrev μ-loop : tie.MeasureT-loop
 μ-loop line₀ at number names from i₀ line i = 9 - i
