@@ -17,7 +17,7 @@ use Rattle.layout.proofs.Round.{Fits, round, well-formed}
 use Rattle.face.specs.Face.{Faced, isPart, partNamed, stands, standsSound, shown, state}
 use Rattle.face.proofs.Faces.{read-none, read-some, write-none, write-some, wait-none, wait-some, cut-none, cut-some}
 use Rattle.audit.specs.Called.{called, callable, CallsStaySound, CallsNever12}
-use Rattle.audit.proofs.Data.{image-fits, step-fits}
+use Rattle.audit.proofs.Data.{short-fits, image-short, step-short}
 
 module _ (part : ℕ) (i cells : List ℕ) where
   called-none : (e : Event) → stands part i ≡ false → called part i cells e ≡ state i cells
@@ -50,8 +50,10 @@ module _ (part : ℕ) (i cells : List ℕ) where
   calls-sound : (e : Event) → callable e ≡ true → standsSound part i ≡ true → standsSound part (called part i cells e .image) ≡ true
   calls-sound e c h =
       let f = found h in
+      let p = partNamed part in
+      let left = step p (deviceOf i) (lent cells) e .answer .device in
       rw (called-some e (f .0))
-      (left-stands _ (known (f .0)) (step-fits (partNamed part) (deviceOf i) (lent cells) (image-fits i) e c) (step-sound (partNamed part) (deviceOf i) (lent cells) e (f .1)))
+      (left-stands left (known (f .0)) (short-fits left (step-short p (deviceOf i) (lent cells) (image-short i) e c)) (step-sound p (deviceOf i) (lent cells) e (f .1)))
 
 pub calls-stay-sound : CallsStaySound
 calls-stay-sound = calls-sound

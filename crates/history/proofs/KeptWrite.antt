@@ -1,9 +1,9 @@
--- Every write of a sound record has a fine effect: one that leaves the record sound.
+-- Every write of a sound record has a fine effect: one that leaves the record sound, and the data of its program of 16 bits.
 use Prim.Native.Nat.{ℕ, _<_, min}
 use mathlib.Core.Path.{_≡_, refl, sym, _∙_}
 use mathlib.Core.Bool.{Bool, true, false, _&&_, not}
 use native.Mathlib.Omega.{arith}
-use lib.Dec.{ltb, eqb}
+use lib.Dec.{ltb, eqb, lit<}
 use borrow.Author.Tests.{lt-ltb, eqb-true, not-false}
 use Rattle.blocks.specs.Blocks.{has, withOf}
 use Rattle.geometry.specs.declared.Part.{Part}
@@ -36,6 +36,7 @@ use Rattle.plain.specs.Cycles.{isAt, is, firstUnlock, secondUnlock, isDyb}
 use Rattle.plain.specs.Sound.{operationSound, cycleInRange, readingInRange, cycleInSuspension, cycleSound, stillCommand, commandSound}
 use Rattle.plain.specs.Commands.{isSuspended, programIsSuspended, resumes, started, begins, orReset, unless, chipErase, blockErase, unlessLocked, atGround, afterUnlock, afterUnlocked, afterA0, after80, after80Unlock, after80Unlocked, after48, after60, after68, after6060, afterReading, continued, entered, addBlock, inWindow, orBusy, inSuspendedErase, written}
 use Rattle.plain.proofs.Tools.{by-test, both-left, both-right, clash}
+use Rattle.plain.proofs.Data.{insideData, dataOf, Short}
 use Rattle.plain.proofs.FigureLaws.{program-some}
 use Rattle.plain.proofs.Facts.{ProgramFacts, window, window-lowest, erasing, erase-suspended}
 use Rattle.plain.proofs.FactsHold.{programming-holds, window-holds, resting-holds, inside-holds, chip-holds}
@@ -48,14 +49,14 @@ use Rattle.history.proofs.KeptLists.{opened, opened-low, added, added-l
 abbrev pub never : Refusal → Bool
 never n = eqb (number n) 1
 
--- what an effect must be, so that the record it is applied to stays sound
-pub data Fine (p : Part) (bits : Protection) (o : Operation) : Effect → Type 0 where
-  goes : {c : Command} → commandSound p o c ≡ true → Fine p bits o (Goes c)
-  starts : {x : Operation} → operationSound p bits x ≡ true → Fine p bits o (Starts x)
-  protects : {new : Protection} → strayBits p new ≡ false → operationSound p new o ≡ true → Fine p bits o (Protects new)
-  falls : {n : Refusal} → never n ≡ false → Fine p bits o (Falls n)
-  stays : {n : Refusal} → never n ≡ false → Fine p bits o (Stays n)
-  drops : Fine p bits o Drops
+-- what the effect of the word w must be, so that the record it is applied to stays sound
+pub data Fine (p : Part) (bits : Protection) (w : ℕ) (o : Operation) : Effect → Type 0 where
+  goes : {c : Command} → commandSound p o c ≡ true → Fine p bits w o (Goes c)
+  starts : {x : Operation} → operationSound p bits x ≡ true → (w < 65536 → Short o → Short x) → Fine p bits w o (Starts x)
+  protects : {new : Protection} → strayBits p new ≡ false → operationSound p new o ≡ true → Fine p bits w o (Protects new)
+  falls : {n : Refusal} → never n ≡ false → Fine p bits w o (Falls n)
+  stays : {n : Refusal} → never n ≡ false → Fine p bits w o (Stays n)
+  drops : Fine p bits w o Drops
 
 module _ (p : Part) (bits : Protection) (none : strayBits p bits ≡ false) (a w : ℕ) (within : a < wordCount p) where
   block-below : blockOf p a < blockCount p
@@ -63,10 +64,10 @@ module _ (p : Part) (bits : Protection) (none : strayBits p bits ≡ false) (a w
 
   -- an effect while nothing runs
   abbrev FineIn : Suspension → Effect → Type 0
-  FineIn s = Fine p bits (standing s)
+  FineIn s = Fine p bits w (standing s)
 
-  or-reset : (o : Operation) {x : Effect} → Fine p bits o x → Fine p bits o (orReset w x)
-  or-reset o f = by-test (Fine p bits o) (is w 0xF0) (λ _. goes (ground-sound p o)) (λ _. f)
+  or-reset : (o : Operation) {x : Effect} → Fine p bits w o x → Fine p bits w o (orReset w x)
+  or-reset o f = by-test (Fine p bits w o) (is w 0xF0) (λ _. goes (ground-sound p o)) (λ _. f)
 
   -- the register goes on to a state that may stand beside the suspension
   moves : (s : Suspension) (c : Command) → stillCommand p s c ≡ true → FineIn s (Goes c)
@@ -86,32 +87,32 @@ module _ (p : Part) (bits : Protection) (none : strayBits p bits ≡ false) (a w
   -- ---- operations that start
 
   resumes-fine : (s : Suspension) → operationSound p bits (standing s) ≡ true → FineIn s (resumes s)
-  unfolding resumes standing operationSound number
+  unfolding resumes standing operationSound dataOf number
   resumes-fine Unsuspended e = falls refl
-  resumes-fine (OfProgram q) e = starts e
-  resumes-fine (OfErase x) e = starts (both-left _ _ e)
+  resumes-fine (OfProgram q) e = starts e (λ g h. h)
+  resumes-fine (OfErase x) e = starts (both-left _ _ e) (λ g h. lit< tt)
 
   program-facts : protected bits (blockWritten p (writing a w)) ≡ false → ProgramFacts p bits (started p (writing a w))
   unfolding liesIn
   program-facts free = record { in-part = lt-ltb a (wordCount p) within; some-left = program-some p; most-left = omega arith; unprotected = free }
 
   begins-fine : (s : Suspension) → operationSound p bits (standing s) ≡ true → protected bits (blockWritten p (writing a w)) ≡ false → FineIn s (begins p s (writing a w))
-  unfolding begins standing number
-  begins-fine Unsuspended e free = starts (programming-holds p bits _ (program-facts free))
+  unfolding begins standing dataOf insideData number
+  begins-fine Unsuspended e free = starts (programming-holds p bits _ (program-facts free)) (λ g h. g)
   begins-fine (OfProgram q) e free = falls refl
   begins-fine (OfErase x) e free =
-      by-test (Fine p bits (EraseSuspended (suspended x Nothing))) (has (x .list) (blockWritten p (writing a w))) (λ _. falls refl)
-      (λ off. starts (inside-holds p bits _ _ (erase-suspended p bits _ e) (record { program = program-facts free; off-list = off })))
+      by-test (Fine p bits w (EraseSuspended (suspended x Nothing))) (has (x .list) (blockWritten p (writing a w))) (λ _. falls refl)
+      (λ off. starts (inside-holds p bits _ _ (erase-suspended p bits _ e) (record { program = program-facts free; off-list = off })) (λ g h. g))
 
   chip-fine : FineIn Unsuspended (chipErase p bits)
-  unfolding standing number
-  chip-fine = by-test (Fine p bits Idle) (allProtected p bits) (λ _. falls refl) (λ h. starts (chip-holds p bits _ (chip-opened p bits h)))
+  unfolding standing dataOf number
+  chip-fine = by-test (Fine p bits w Idle) (allProtected p bits) (λ _. falls refl) (λ h. starts (chip-holds p bits _ (chip-opened p bits h)) (λ g h. lit< tt))
 
   block-fine : FineIn Unsuspended (blockErase p bits (blockOf p a))
-  unfolding standing number
+  unfolding standing dataOf number
   block-fine =
-      by-test (Fine p bits Idle) (protected bits (blockOf p a)) (λ _. falls refl)
-      (λ h. starts (window-holds p bits _ (opened p bits (blockOf p a) block-below h) (λ n. opened-low p (blockOf p a) n block-below)))
+      by-test (Fine p bits w Idle) (protected bits (blockOf p a)) (λ _. falls refl)
+      (λ h. starts (window-holds p bits _ (opened p bits (blockOf p a) block-below h) (λ n. opened-low p (blockOf p a) n block-below)) (λ g h. lit< tt))
 
   -- ---- protection that changes
 
@@ -190,12 +191,12 @@ module _ (p : Part) (bits : Protection) (none : strayBits p bits ≡ false) (a w
 
   -- ---- a write in the window, and any write
 
-  add-fine : (e : Erase) → operationSound p bits (Window e) ≡ true → Fine p bits (Window e) (addBlock p bits e a)
-  unfolding addBlock number
+  add-fine : (e : Erase) → operationSound p bits (Window e) ≡ true → Fine p bits w (Window e) (addBlock p bits e a)
+  unfolding addBlock dataOf number
   add-fine e s =
-      let F = Fine p bits (Window e) in
+      let F = Fine p bits w (Window e) in
       by-test F (not (eqb (bankOf p a) (bankOfBlock p (e .hand)))) (λ _. stays refl)
-      (λ h. by-test F (protected bits (blockOf p a)) (λ _. stays refl) (λ free. starts (more free (eqb-true _ _ (not-false _ h)))))
+      (λ h. by-test F (protected bits (blockOf p a)) (λ _. stays refl) (λ free. starts (more free (eqb-true _ _ (not-false _ h))) (λ g h. lit< tt)))
     where
       more : protected bits (blockOf p a) ≡ false → bankOf p a ≡ bankOfBlock p (e .hand)
           → operationSound p bits (Window (erase (withOf (e .list) (blockOf p a)) (min (e .hand) (blockOf p a)) (windowTime p) (e .dq6) (e .dq2))) ≡ true
@@ -203,29 +204,29 @@ module _ (p : Part) (bits : Protection) (none : strayBits p bits ≡ false) (a w
           window-holds p bits _ (added p bits e (blockOf p a) block-below free (sym (laid p .one-bank a) ∙ bank) (window p bits e s))
           (added-low p e (blockOf p a) block-below (window-lowest p bits e s))
 
-  window-fine : (e : Erase) → operationSound p bits (Window e) ≡ true → Fine p bits (Window e) (inWindow p bits e a w)
-  unfolding inWindow
+  window-fine : (e : Erase) → operationSound p bits (Window e) ≡ true → Fine p bits w (Window e) (inWindow p bits e a w)
+  unfolding inWindow dataOf insideData
   window-fine e s =
-      let F = Fine p bits (Window e) in
+      let F = Fine p bits w (Window e) in
       by-test F (is w 0x30) (λ _. add-fine e s)
-      (λ _. by-test F (is w 0xB0) (λ _. starts (resting-holds p bits _ (closed p bits e (window p bits e s)))) (λ _. drops))
+      (λ _. by-test F (is w 0xB0) (λ _. starts (resting-holds p bits _ (closed p bits e (window p bits e s))) (λ g h. lit< tt)) (λ _. drops))
 
-  busy-fine : (o x : Operation) → operationSound p bits x ≡ true → Fine p bits o (orBusy w x)
+  busy-fine : (o x : Operation) → operationSound p bits x ≡ true → (w < 65536 → Short o → Short x) → Fine p bits w o (orBusy w x)
   unfolding number
-  busy-fine o x s = by-test (Fine p bits o) (is w 0xB0) (λ _. starts s) (λ _. stays refl)
+  busy-fine o x s short = by-test (Fine p bits w o) (is w 0xB0) (λ _. starts s short) (λ _. stays refl)
 
   inside-fine : (e : Erase) (i : Inside) (c : Command) → operationSound p bits (EraseSuspended (suspended e i)) ≡ true → commandSound p (EraseSuspended (suspended e i)) c ≡ true
-      → Fine p bits (EraseSuspended (suspended e i)) (inSuspendedErase i (entered p bits (OfErase e) c a w))
+      → Fine p bits w (EraseSuspended (suspended e i)) (inSuspendedErase i (entered p bits (OfErase e) c a w))
   unfolding standing inSuspendedErase number
   inside-fine e Nothing c s h = enter-fine (OfErase e) c s h
   inside-fine e (Runs q) c s h = stays refl
 
-  pub written-fine : (o : Operation) (c : Command) → operationSound p bits o ≡ true → commandSound p o c ≡ true → Fine p bits o (written p bits o c a w)
-  unfolding standing written operationSound number
+  pub written-fine : (o : Operation) (c : Command) → operationSound p bits o ≡ true → commandSound p o c ≡ true → Fine p bits w o (written p bits o c a w)
+  unfolding standing written operationSound dataOf insideData number
   written-fine Idle c s h = enter-fine Unsuspended c s h
-  written-fine (Programming q) c s h = busy-fine (Programming q) (ProgramSuspended q) s
+  written-fine (Programming q) c s h = busy-fine (Programming q) (ProgramSuspended q) s (λ g h. h)
   written-fine (ProgramSuspended q) c s h = enter-fine (OfProgram q) c s h
   written-fine (Window e) c s h = window-fine e s
-  written-fine (Erasing e) c s h = busy-fine (Erasing e) (EraseSuspended (suspended e Nothing)) (resting-holds p bits e (erasing p bits e s))
+  written-fine (Erasing e) c s h = busy-fine (Erasing e) (EraseSuspended (suspended e Nothing)) (resting-holds p bits e (erasing p bits e s)) (λ g h. lit< tt)
   written-fine (EraseSuspended x) c s h = inside-fine (x .erase) (x .inside) c s h
   written-fine (ChipErasing e) c s h = stays refl

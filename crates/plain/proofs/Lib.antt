@@ -10,6 +10,7 @@ pub mod Facts
 pub mod FactsHold
 pub mod Register
 pub mod SoundTime
+pub mod Data
 pub mod Ends
 pub mod Leaps
 pub mod Quick
