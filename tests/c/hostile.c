@@ -1,6 +1,7 @@
 /*
  * Whatever is lent is answered, and as the model says: wrong lengths, parts that do not exist, random bits for a record, sound
- * records with a word altered, and operations in protected blocks. STATE must leave the record bit for bit and the cells as they were.
+ * records with a word altered, operations in protected blocks. STATE must leave the record bit for bit and the cells as they
+ * were.
  */
 #include "check.h"
 #include "dice.h"

@@ -12,7 +12,7 @@ use Rattle.plain.specs.Sound.{sound}
 use Rattle.plain.proofs.Refusals.{twelve-unused}
 use Rattle.plain.proofs.Tools.{both, both-left, both-right, by-cases}
 use Rattle.history.proofs.Kept.{step-sound}
-use Rattle.layout.specs.Image.{imageOf, wellFormed, deviceOf}
+use Rattle.layout.specs.Image.{imageOf, deviceOf}
 use Rattle.layout.proofs.Round.{Fits, round, well-formed}
 use Rattle.face.specs.Face.{Faced, isPart, partNamed, stands, standsSound, shown, state}
 use Rattle.face.proofs.Faces.{read-none, read-some, write-none, write-some, wait-none, wait-some, cut-none, cut-some}
@@ -27,7 +27,7 @@ module _ (part : ℕ) (i cells : List ℕ) where
   called-none (wait n) = wait-none part i cells n
   called-none (cut debris) = cut-none part i cells debris
 
-  pub called-some : (e : Event) → stands part i ≡ true → called part i cells e ≡ shown (step (partNamed part) (deviceOf i) (lent cells) e)
+  called-some : (e : Event) → stands part i ≡ true → called part i cells e ≡ shown (step (partNamed part) (deviceOf i) (lent cells) e)
   unfolding called step
   called-some (read a) = read-some part i cells a
   called-some (write a w) = write-some part i cells a w

@@ -1,6 +1,6 @@
 -- Demand 3 and its companions, for every run of the public functions.
 use Prim.Native.Nat.{ℕ, _<_}
-use mathlib.Core.Path.{_≡_, refl, sym, ap, _∙_, subst}
+use mathlib.Core.Path.{_≡_, sym, ap, _∙_, subst}
 use mathlib.Core.List.{List}
 use Rattle.plain.specs.Lent.{Lent, cellAt}
 use Rattle.geometry.specs.declared.Part.{Part}
@@ -15,7 +15,7 @@ use Rattle.plain.specs.Machine.{Outcome, outcome, Ran, step, run}
 use Rattle.plain.specs.Promises.{Left, Demand3}
 use Rattle.history.proofs.Demand.{demand-3, holding, charge-by-history}
 use Rattle.audit.specs.Performed.{Allowed, Performed}
-use Rattle.audit.proofs.Same.{Is, allowed-is, performed-run}
+use Rattle.audit.proofs.Same.{allowed-is, performed-run}
 
 -- after any run of `machine::read`, `write`, `wait` and `cut` from `machine::fresh`, and a cut that is answered DONE
 pub demand-3-code : (p : Part) (start : Lent) (es : List Event) (debris : List ℕ) (ran : Ran) (y : Answer) (after : Lent)

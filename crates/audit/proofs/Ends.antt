@@ -16,7 +16,7 @@ use Rattle.plain.proofs.EventLaws.{wait-barred}
 use Rattle.plain.proofs.Ladder.{entry-state}
 use Rattle.plain.proofs.Tools.{by-cases}
 use Rattle.history.proofs.Kept.{step-sound, no-run-ends-protected}
-use Rattle.audit.specs.Performed.{Allowed, waits}
+use Rattle.audit.specs.Performed.{waits}
 use Rattle.audit.specs.Ends.{WaitsSpareProtected, RunsSpareProtected, AnswersStaySound}
 use Rattle.audit.proofs.Same.{allowed-is, performed-run}
 

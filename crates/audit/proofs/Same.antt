@@ -1,12 +1,12 @@
 -- The contracts fix every answer: any two results that one of them allows are equal.
 use Prim.Native.Nat.{ℕ}
 use mathlib.Core.Path.{_≡_, refl, sym, ap, _∙_}
-use mathlib.Core.List.{List, [], _∷_}
+use mathlib.Core.List.{List, _∷_}
 use Rattle.geometry.specs.declared.Part.{Part}
 use Rattle.plain.specs.declared.Refusal.the-variants.{Address}
 use Rattle.plain.specs.declared.Device.{Device}
 use Rattle.plain.specs.declared.Answer.{Answer}
-use Rattle.plain.specs.Events.{Event, read, write, wait, cut}
+use Rattle.plain.specs.Events.{Event}
 use Rattle.plain.specs.Lent.{Lent, lent}
 use Rattle.plain.specs.Machine.{Outcome, Ran, readEvent, writeEvent, step, run}
 use Rattle.plain.proofs.Ladder.{by-ladder}

@@ -1,7 +1,7 @@
 -- What had begun by the record is what had begun by the history; it is one program and one block at most, apart and unprotected.
 use Prim.Native.Nat.{ℕ, _-_, _<_}
 use mathlib.Core.Path.{_≡_, refl, sym, ap, _∙_}
-use mathlib.Core.Bool.{Bool, true, false}
+use mathlib.Core.Bool.{true, false}
 use native.Mathlib.Omega.{arith}
 use borrow.Author.Tests.{ltb-true, lt-ltb}
 use Rattle.blocks.specs.Blocks.{has}
@@ -19,7 +19,6 @@ use Rattle.plain.specs.declared.Operation.the-variants.{Idle, Programming, Prog
 use Rattle.plain.specs.declared.Place.{Place}
 use Rattle.plain.specs.declared.Place.the-variants.{At}
 use Rattle.plain.specs.declared.BegunProgram.the-variants.{Writes}
-use Rattle.plain.specs.Choice.{if_then_else_}
 use Rattle.plain.specs.Figures.{programTime, eraseTime, chipTime}
 use Rattle.plain.specs.Programs.{blockWritten}
 use Rattle.plain.specs.Sound.{operationSound}

@@ -1,7 +1,7 @@
 -- An accepted cut: each word holds what the facts of the history give it.
-use Prim.Native.Nat.{ℕ, _+_, _-_, _≤_}
-use mathlib.Core.Path.{_≡_, refl, sym, ap, _∙_}
-use mathlib.Core.Bool.{Bool, true, false}
+use Prim.Native.Nat.{ℕ, _-_, _≤_}
+use mathlib.Core.Path.{_≡_, refl, sym, _∙_}
+use mathlib.Core.Bool.{true}
 use mathlib.Core.List.{List}
 use native.Mathlib.Omega.{arith}
 use lib.Dec.{ltb}
@@ -21,7 +21,7 @@ use Rattle.plain.specs.Choice.{if_then_else_}
 use Rattle.plain.specs.Figures.{programTime, eraseTime, chipTime}
 use Rattle.plain.specs.Lent.{Lent}
 use Rattle.plain.specs.Sound.{operationSound}
-use Rattle.plain.specs.Cut.{begun, ifBegun, begunBlock, programBegun, begunInside, begunProgram, blockDebris, programDebris, debrisNeeded, blockCut, programCut, cutLent}
+use Rattle.plain.specs.Cut.{begun, ifBegun, begunBlock, programBegun, begunInside, begunProgram, blockDebris, debrisNeeded, blockCut, programCut, cutLent}
 use Rattle.plain.specs.History.{Fact, eraseCuts, programCuts, cuts}
 use Rattle.plain.proofs.CutCells.{length-block}
 use Rattle.plain.proofs.Facts.{ProgramFacts, programming, program-suspended, inside-runs}

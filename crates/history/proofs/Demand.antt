@@ -1,7 +1,7 @@
 -- Demand 3, proved: what an accepted cut leaves, after any run of a fresh device; and what the history says of words and charge.
 use Prim.Native.Nat.{ℕ, _-_, _<_, _≤_}
 use mathlib.Core.Path.{_≡_, refl, sym, ap, _∙_, subst}
-use mathlib.Core.Bool.{Bool, true, false}
+use mathlib.Core.Bool.{true, false}
 use mathlib.Core.List.{List, []}
 use native.Mathlib.Omega.{arith}
 use lib.ListN.{length, getD}
@@ -11,18 +11,17 @@ use Rattle.cells.proofs.Bits.{partly}
 use Rattle.geometry.specs.declared.Part.{Part}
 use Rattle.geometry.specs.Parts.{wordCount, blockOf, firstOf}
 use Rattle.protection.specs.Protection.{protected}
-use Rattle.plain.specs.declared.Refusal.{Refusal}
 use Rattle.plain.specs.declared.Refusal.the-variants.{Done, Debris}
 use Rattle.plain.specs.declared.Written.{Written}
 use Rattle.plain.specs.declared.Place.the-variants.{At}
 use Rattle.plain.specs.declared.BegunProgram.the-variants.{Writes}
 use Rattle.plain.specs.declared.Device.{Device}
-use Rattle.plain.specs.Events.{Event, cut}
+use Rattle.plain.specs.Events.{cut}
 use Rattle.plain.specs.Lent.{Lent, cellAt}
 use Rattle.plain.specs.Programs.{writes, datum}
 use Rattle.plain.specs.Record.{fresh}
 use Rattle.plain.specs.Sound.{operationSound}
-use Rattle.plain.specs.Cut.{begunBlock, begunProgram, blockDebris, debrisNeeded, blockCut, programCut, cutLent}
+use Rattle.plain.specs.Cut.{begunBlock, begunProgram, blockDebris, debrisNeeded, blockCut, cutLent}
 use Rattle.plain.specs.Machine.{Outcome, cutTaken, cutEvent, step, run, Fit}
 use Rattle.plain.specs.History.{Fact, Told, holds}
 use Rattle.plain.specs.Promises.{ProgramBegun, EraseBegun, Left, Demand3, Holding, ChargeByHistory}

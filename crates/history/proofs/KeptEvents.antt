@@ -1,10 +1,10 @@
 -- Every event on a sound record leaves a sound one, and is not answered STATE.
 use Prim.Native.Nat.{ℕ, _+_, _≤_}
 use mathlib.Core.Path.{_≡_, refl, _∙_}
-use mathlib.Core.Bool.{Bool, true, false, not}
+use mathlib.Core.Bool.{Bool, true, false}
 use mathlib.Core.List.{List}
 use native.Mathlib.Omega.{arith}
-use lib.Dec.{ltb, leb}
+use lib.Dec.{ltb}
 use borrow.Author.Tests.{ltb-true, leb-true, not-false}
 use Rattle.geometry.specs.declared.Part.{Part}
 use Rattle.geometry.specs.Parts.{wordCount}
@@ -29,7 +29,7 @@ use Rattle.plain.specs.Sound.{meterSound, operationSound, commandSound, sound}
 use Rattle.plain.specs.Commands.{effected}
 use Rattle.plain.specs.Time.{Moment, ticks}
 use Rattle.plain.specs.Machine.{Outcome, outcome, refused, ladder, now, waited, readEvent, writeEvent, waitEvent, cutEvent, step, Fit}
-use Rattle.plain.proofs.Tools.{by-test, clash}
+use Rattle.plain.proofs.Tools.{clash}
 use Rattle.plain.proofs.Facts.{sound-clock, sound-charge, sound-bits, sound-operation, sound-command}
 use Rattle.plain.proofs.FactsHold.{meter-holds, sound-holds, idle-holds}
 use Rattle.plain.proofs.Ladder.{by-ladder}

@@ -3,7 +3,7 @@ use Prim.Native.Nat.{ℕ, _<_, min}
 use mathlib.Core.Path.{_≡_, refl, sym, _∙_}
 use mathlib.Core.Bool.{Bool, true, false, _&&_, not}
 use native.Mathlib.Omega.{arith}
-use lib.Dec.{ltb, eqb, lit<}
+use lib.Dec.{eqb, lit<}
 use borrow.Author.Tests.{lt-ltb, eqb-true, not-false}
 use Rattle.blocks.specs.Blocks.{has, withOf}
 use Rattle.geometry.specs.declared.Part.{Part}
@@ -25,7 +25,6 @@ use Rattle.plain.specs.declared.Command.{Command}
 use Rattle.plain.specs.declared.Command.the-variants.{Ground, Entering, Reads}
 use Rattle.plain.specs.declared.Cycle.{Cycle}
 use Rattle.plain.specs.declared.Cycle.the-variants.{Unlock, Unlocked, ProgramData, EraseSetup, EraseUnlock, EraseUnlocked, DybData, PpbSetup, PpbSetting, PpbClearing}
-use Rattle.plain.specs.declared.Reading.the-variants.{Identity, Dybs}
 use Rattle.plain.specs.declared.Effect.{Effect}
 use Rattle.plain.specs.declared.Effect.the-variants.{Goes, Starts, Protects, Falls, Stays, Drops}
 use Rattle.plain.specs.Figures.{windowTime}
@@ -35,7 +34,7 @@ use Rattle.plain.specs.Refusals.{number}
 use Rattle.plain.specs.Cycles.{isAt, is, firstUnlock, secondUnlock, isDyb}
 use Rattle.plain.specs.Sound.{operationSound, cycleInRange, readingInRange, cycleInSuspension, cycleSound, stillCommand, commandSound}
 use Rattle.plain.specs.Commands.{isSuspended, programIsSuspended, resumes, started, begins, orReset, unless, chipErase, blockErase, unlessLocked, atGround, afterUnlock, afterUnlocked, afterA0, after80, after80Unlock, after80Unlocked, after48, after60, after68, after6060, afterReading, continued, entered, addBlock, inWindow, orBusy, inSuspendedErase, written}
-use Rattle.plain.proofs.Tools.{by-test, both-left, both-right, clash}
+use Rattle.plain.proofs.Tools.{by-test, both-left, both-right}
 use Rattle.plain.proofs.Data.{insideData, dataOf, Short}
 use Rattle.plain.proofs.FigureLaws.{program-some}
 use Rattle.plain.proofs.Facts.{ProgramFacts, window, window-lowest, erasing, erase-suspended}

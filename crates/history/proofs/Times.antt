@@ -2,7 +2,7 @@
 -- give it.
 use Prim.Native.Nat.{ℕ, zero, suc, _-_, _≤_}
 use mathlib.Core.Path.{_≡_, refl, sym, ap, _∙_}
-use mathlib.Core.Bool.{Bool, true, false}
+use mathlib.Core.Bool.{true, false}
 use mathlib.Core.List.{List, _∷_}
 use native.Mathlib.Omega.{arith}
 use lib.Dec.{ltb, eqb}
@@ -32,7 +32,7 @@ use Rattle.plain.specs.Operations.{runningInside, runningOf}
 use Rattle.plain.specs.Programs.{finished}
 use Rattle.plain.specs.Sound.{operationSound}
 use Rattle.plain.specs.Time.{Moment, last, onward, current, operationTick, insideTick, lentTick, eraseFinished, tick, ticks}
-use Rattle.plain.specs.History.{Fact, Doing, nothing, programs, pauses, waits, erases, wipes, rests, programsIn, programDone, eraseDone, Told, telling, draws, goes, comes, microsecond, time}
+use Rattle.plain.specs.History.{Fact, Doing, nothing, programs, waits, erases, wipes, rests, programsIn, programDone, eraseDone, Told, telling, draws, goes, comes, microsecond, time}
 use Rattle.plain.proofs.Tools.{by-test, by-cases}
 use Rattle.plain.proofs.Facts.{ProgramFacts, EraseFacts, programming, window, erasing, chip-erasing, inside-runs}
 use Rattle.plain.proofs.Programs.{length-finished}

@@ -1,5 +1,5 @@
 -- By soundness what a begun program writes lies in the part, in an unprotected block.
-use Prim.Native.Nat.{ℕ, _-_, _<_}
+use Prim.Native.Nat.{_-_, _<_}
 use mathlib.Core.Path.{_≡_, refl}
 use mathlib.Core.Bool.{true, false}
 use native.Mathlib.Omega.{arith}
@@ -16,7 +16,6 @@ use Rattle.plain.specs.declared.Operation.{Operation}
 use Rattle.plain.specs.declared.Operation.the-variants.{Idle, Programming, ProgramSuspended, Window, Erasing, EraseSuspended, ChipErasing}
 use Rattle.plain.specs.declared.BegunProgram.{BegunProgram}
 use Rattle.plain.specs.declared.BegunProgram.the-variants.{Writes}
-use Rattle.plain.specs.Choice.{if_then_else_}
 use Rattle.plain.specs.Figures.{programTime}
 use Rattle.plain.specs.Programs.{liesIn, blockWritten}
 use Rattle.plain.specs.Sound.{operationSound}

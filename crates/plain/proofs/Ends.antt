@@ -1,7 +1,7 @@
 -- No operation of a sound record ever ends in a protected block, however long the wait.
 use Prim.Native.Nat.{ℕ, zero, suc}
 use mathlib.Core.Path.{_≡_, refl}
-use mathlib.Core.Bool.{Bool, true, false, _&&_, _||_, and-false}
+use mathlib.Core.Bool.{true, false, _&&_, and-false}
 use borrow.Author.Tests.{not-true}
 use Rattle.blocks.specs.Blocks.{has, pack, setOf, some}
 use Rattle.geometry.specs.declared.Part.{Part}

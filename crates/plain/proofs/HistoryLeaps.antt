@@ -11,7 +11,6 @@ use Rattle.blocks.specs.declared.Blocks.{Blocks}
 use Rattle.geometry.specs.declared.Part.{Part}
 use Rattle.plain.specs.declared.Refusal.{Refusal}
 use Rattle.plain.specs.declared.Command.{Command}
-use Rattle.plain.specs.Choice.{if_then_else_}
 use Rattle.plain.specs.Events.{Event, read, write, wait, cut, Turn}
 use Rattle.plain.specs.Figures.{programTime, windowTime, eraseTime, chipTime}
 use Rattle.plain.specs.History.{Fact, Doing, nothing, programs, pauses, waits, erases, wipes, rests, programsIn, Told, telling, Kind, taken, lost, dropped, unheard, kind, draws, goes, comes, microsecond, time, wroteAs, waitedAs, cutAs, tell, told}

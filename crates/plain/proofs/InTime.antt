@@ -1,6 +1,6 @@
 -- Each operation as time sees it: still, or told by its time left.
-use Prim.Native.Nat.{ℕ, zero, suc, _-_, _<_}
-use mathlib.Core.Path.{_≡_, refl}
+use Prim.Native.Nat.{ℕ}
+use mathlib.Core.Path.{refl}
 use mathlib.Core.Bool.{Bool, true, false}
 use borrow.Author.Tests.{lt-leb}
 use Rattle.geometry.specs.declared.Part.{Part}

@@ -1,21 +1,20 @@
 -- The checks that every event begins with, told once: what each rung comes to, and what holds of an event if it holds on each.
 use Prim.Native.Nat.{ℕ}
-use mathlib.Core.Path.{_≡_, refl, ap, _∙_}
-use mathlib.Core.Bool.{Bool, true, false, not}
+use mathlib.Core.Path.{_≡_}
+use mathlib.Core.Bool.{Bool, true, false}
 use native.Mathlib.Omega.{arith}
 use lib.ListN.{length}
-use borrow.Author.Tests.{not-true, not-false, eqb-true, eq-eqb, ne-eqb}
+use borrow.Author.Tests.{eqb-true, eq-eqb, ne-eqb}
 use Rattle.geometry.specs.declared.Part.{Part}
 use Rattle.geometry.specs.Parts.{wordCount}
 use Rattle.plain.specs.declared.Refusal.{Refusal}
 use Rattle.plain.specs.declared.Refusal.the-variants.{State, Cells}
 use Rattle.plain.specs.declared.Device.{Device}
-use Rattle.plain.specs.declared.Entry.{Entry}
 use Rattle.plain.specs.declared.Entry.the-variants.{Admitted, Barred}
 use Rattle.plain.specs.Lent.{Lent, isWhole}
 use Rattle.plain.specs.Sound.{sound}
 use Rattle.plain.specs.Machine.{Outcome, refused, entry, climbed, ladder, Fit}
-use Rattle.plain.proofs.Tools.{by-test, by-cases, clash}
+use Rattle.plain.proofs.Tools.{by-cases, clash}
 
 module _ (p : Part) (r : Device) (l : Lent) where
   -- ---- the entry

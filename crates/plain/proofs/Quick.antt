@@ -7,7 +7,7 @@ use lib.Dec.{leb}
 use Rattle.geometry.specs.declared.Part.{Part}
 use Rattle.plain.specs.declared.Refusal.the-variants.{Clock}
 use Rattle.plain.specs.declared.Device.{Device}
-use Rattle.plain.specs.Events.{Event, read, write, wait, cut, Turn}
+use Rattle.plain.specs.Events.{Event, read, write, wait, cut}
 use Rattle.plain.specs.Figures.{clockLimit}
 use Rattle.plain.specs.Lent.{Lent}
 use Rattle.plain.specs.Machine.{Outcome, Ran, ladder, now, waited, readEvent, writeEvent, waitEvent, cutEvent, step, run}

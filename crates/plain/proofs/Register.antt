@@ -1,6 +1,6 @@
 -- The register: which of its states may stand beside which operation.
 use mathlib.Core.Path.{_≡_, refl}
-use mathlib.Core.Bool.{Bool, true, false}
+use mathlib.Core.Bool.{true}
 use Rattle.geometry.specs.declared.Part.{Part}
 use Rattle.plain.specs.declared.Inside.the-variants.{Nothing}
 use Rattle.plain.specs.declared.Operation.{Operation}

@@ -22,7 +22,7 @@ use Rattle.plain.specs.declared.Running.the-variants.{Still, Programs, W
 use Rattle.plain.specs.declared.Command.{Command}
 use Rattle.plain.specs.Figures.{programTime, windowTime, eraseTime, chipTime, runningCurrent}
 use Rattle.plain.specs.Choice.{if_then_else_}
-use Rattle.plain.specs.Operations.{runningOf, runningInside, suspensionOf}
+use Rattle.plain.specs.Operations.{runningOf, runningInside}
 use Rattle.plain.specs.Record.{programLeft, erase, eraseLeft, suspended}
 use Rattle.plain.specs.Sound.{operationSound, isStill, commandSound}
 use Rattle.plain.specs.Time.{Moment, last, current, onward, operationTick, insideTick, tick, ticks}

@@ -1,6 +1,6 @@
 -- Microseconds in a row: what n of them come to where nothing happens, and where something ends.
 use Prim.Native.Nat.{ℕ, zero, suc, _+_, _-_, _*_, _<_, _≤_}
-use mathlib.Core.Path.{_≡_, refl, sym, ap, _∙_}
+use mathlib.Core.Path.{_≡_, ap, _∙_}
 use native.Mathlib.Nat.{zero-add, suc-add, suc-mul}
 use native.Mathlib.Omega.{arith}
 use Rattle.geometry.specs.declared.Part.{Part}

@@ -1,7 +1,7 @@
 -- Small tools for proofs over the plain machine.
 use Prim.Native.Nat.{ℕ, _<_, _≤_}
 use mathlib.Core.Path.{_≡_, refl, sym, _∙_}
-use mathlib.Core.Bool.{Bool, true, false, true≢false, _&&_, _||_, not}
+use mathlib.Core.Bool.{Bool, true, false, true≢false, _&&_, _||_}
 use lib.Dec.{ltb}
 use borrow.Author.Tests.{ltb-true, ltb-false}
 use Rattle.plain.specs.Choice.{if_then_else_}

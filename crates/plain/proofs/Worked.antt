@@ -1,6 +1,5 @@
 -- The starred rows of the bench table, together, and the worked histories: what the plain machine makes of each is what is stated.
-use Prim.Native.Nat.{ℕ}
-use mathlib.Core.Path.{_≡_, refl, sym, ap, _∙_}
+use mathlib.Core.Path.{_≡_, refl, ap, _∙_}
 use mathlib.Core.List.{List, [], _∷_, map}
 use Rattle.blocks.specs.Blocks.{has, pack, setOf, some, seek}
 use Rattle.cells.specs.Cells.{programmed, erased, littered, cutShort}
@@ -16,12 +15,12 @@ use Rattle.plain.specs.Operations.{runningInside, runningOf, suspensionO
 use Rattle.plain.specs.Record.{fresh}
 use Rattle.plain.specs.Sound.{meterSound, programSound, listSound, chipListSound, lowest, insideSound, operationSound, cycleInRange, readingInRange, cycleInSuspension, cycleSound, stillCommand, isGround, isStill, commandSound, sound}
 use Rattle.plain.specs.Commands.{isSuspended, programIsSuspended, resumes, begins, atGround, afterUnlock, afterUnlocked, afterA0, after80, after80Unlock, after80Unlocked, after48, after60, after68, after6060, afterReading, continued, entered, addBlock, inWindow, inSuspendedErase, written, effected}
-use Rattle.plain.specs.Time.{current, insideTick, operationTick, lentTick, tick, ticks}
+use Rattle.plain.specs.Time.{current, insideTick, operationTick, lentTick, tick}
 use Rattle.plain.specs.Status.{polls, insidePolled, polled, status, givenAt, givenWord, readingOn, readingWord, rests, restWord, rested, look}
 use Rattle.plain.specs.Cut.{begunBlock, begunInside, begunProgram, wordOf, blockDebris, programDebris, debrisNeeded, blockCut, programCut, cutLent}
-use Rattle.plain.specs.Machine.{entry, climbed, ladder, readEvent, writeEvent, cutEvent, run}
+use Rattle.plain.specs.Machine.{entry, climbed, ladder, readEvent, writeEvent, cutEvent}
 use Rattle.plain.specs.Bench.{Finding, Row, lookups, runs, stated, after, found, bench}
-use Rattle.plain.specs.History.{Told, kind, draws, goes, comes, microsecond, beginsProgram, goesOn, hearsCycle, hears, wrote, gaveUp, turnedDown, wroteAs, cuts, cutAs, untold, history}
+use Rattle.plain.specs.History.{Told, kind, draws, goes, comes, microsecond, beginsProgram, goesOn, hearsCycle, hears, wrote, gaveUp, turnedDown, wroteAs, cuts, cutAs, untold}
 use Rattle.plain.specs.Worked.{Tale, Work, tells, worked, blank, tales}
 use Rattle.plain.proofs.Leaps.{insideDue, dueOf, insideLess, less, drifted, leap}
 use Rattle.plain.proofs.Quick.{quickWait, quickStep, quickRun, quick-run}

@@ -54,15 +54,19 @@ endsInWait p r l n = someEndProtected p (r .bits) n (now r l)
 abbrev endsSoon : Operation → Device
 endsSoon o = device (record { clock = 0; charge = 0 }) Ground o (ppbSet freshBits 8)
 
-abbrev pub unmade : List Device
+abbrev unmade : List Device
 unmade =
     let q : Program = program (writing 100 0x1234) 2 false in
     let e : Erase = erase (withOf emptyOf 8) 8 2 false false in
     map endsSoon (Programming q ∷ Erasing e ∷ EraseSuspended (suspended e (Runs q)) ∷ ChipErasing e ∷ [])
 
--- it is met in the second microsecond of each, and in none of them before
+-- is it met in a wait of n, of each?
+abbrev metIn : Lent → (microseconds : ℕ) → List Bool
+metIn l n = map (λ (r : Device). endsInWait Small r l n) unmade
+
+-- in the second microsecond, and not before
 abbrev pub Met : Type 0
-Met = (l : Lent) → (map (λ (r : Device). endsInWait Small r l 1) unmade ≡ replicate 4 false) × (map (λ (r : Device). endsInWait Small r l 2) unmade ≡ replicate 4 true)
+Met = (l : Lent) → (metIn l 1 ≡ replicate 4 false) × (metIn l 2 ≡ replicate 4 true)
 
 -- ---- the statements
 

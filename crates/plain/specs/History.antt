@@ -1,6 +1,6 @@
 -- The history of a run, told from its events and their answers alone: no record, no soundness and no cells are named here.
 use Prim.Native.Nat.{ℕ, zero, suc, _+_, _-_, _%_, min}
-use mathlib.Core.Bool.{Bool, true, false}
+use mathlib.Core.Bool.{false}
 use mathlib.Core.List.{List, [], _∷_}
 use lib.Bits.{bitAnd, bitOr}
 use lib.Dec.{ltb, eqb}

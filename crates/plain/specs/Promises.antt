@@ -1,7 +1,7 @@
 -- Demand 3 and what stands beside it, as statements over every run of a fresh device.
-use Prim.Native.Nat.{ℕ, _+_, _-_, _<_, _≤_}
+use Prim.Native.Nat.{ℕ, _-_, _<_}
 use mathlib.Core.Path.{_≡_}
-use mathlib.Core.Bool.{Bool, true, false}
+use mathlib.Core.Bool.{true, false}
 use mathlib.Core.List.{List}
 use lib.ListN.{length, getD}
 use Rattle.blocks.specs.declared.Blocks.{Blocks}
@@ -15,7 +15,7 @@ use Rattle.plain.specs.declared.Written.{Written}
 use Rattle.plain.specs.declared.Device.{Device}
 use Rattle.plain.specs.Events.{Event, cut}
 use Rattle.plain.specs.History.{Doing, programs, pauses, erases, wipes, rests, programsIn, Told, history, holds}
-use Rattle.plain.specs.Machine.{Outcome, Ran, step, run}
+use Rattle.plain.specs.Machine.{Outcome, step, run}
 use Rattle.plain.specs.Lent.{Lent, cellAt}
 use Rattle.plain.specs.Programs.{writes, datum}
 use Rattle.plain.specs.Record.{fresh}

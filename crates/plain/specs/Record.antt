@@ -1,6 +1,6 @@
 -- The record with a part of it changed, and an event's answer.
 use Prim.Native.Nat.{ℕ}
-use mathlib.Core.Bool.{Bool, false}
+use mathlib.Core.Bool.{Bool}
 use Rattle.blocks.specs.declared.Blocks.{Blocks}
 use Rattle.meter.specs.declared.Meter.{Meter}
 use Rattle.protection.specs.declared.Protection.{Protection}

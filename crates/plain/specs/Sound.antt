@@ -1,6 +1,6 @@
 -- Document 01, "A record is sound when ..": each clause of that sentence is a test here, in its order.
-use Prim.Native.Nat.{ℕ, suc, _+_, _*_}
-use mathlib.Core.Bool.{Bool, true, false, _&&_, _||_, not}
+use Prim.Native.Nat.{ℕ, _*_}
+use mathlib.Core.Bool.{Bool, true, false, _&&_, not}
 use lib.Dec.{ltb, leb, eqb}
 use Rattle.blocks.specs.declared.Blocks.{Blocks}
 use Rattle.blocks.specs.Blocks.{has, some}
