@@ -29,7 +29,7 @@ enum {
     K5L_ADDRESS = 3,    /* the address is not below the word count */
     K5L_CLOCK = 4,      /* the wait would take the clock past 100,000,000,000,000 us */
     K5L_DEBRIS = 5,     /* the debris is shorter than the cut needs */
-    K5L_BUSY = 6,       /* a write that the running operation does not take */
+    K5L_BUSY = 6,       /* a write that the running operation does not take; of a program it is every write, B0H too */
     K5L_SEQUENCE = 7,   /* a write that continues no command */
     K5L_BANK = 8,       /* a further erase block in another bank */
     K5L_PROTECTED = 9,  /* the block is protected; for a chip erase, every block is */
@@ -61,8 +61,8 @@ enum {
  *   3      command register: 0 ground; 1 first and 2 second unlock write taken; 3 A0H; 4 80H; 5 and 6 the unlock writes
  *          after 80H; 7 48H; 8 60H; 9 60H, 68H; 10 60H, 60H; 11 identity reading (90H); 12 58H reading
  *   4      the block of 68H (9), the bank of identity reading (11)
- *   5      operation: 0 none; 1 program; 2 suspended program; 3 block erase in its window; 4 block erase; 5 suspended
- *          erase; 6 suspended erase with a program running inside; 7 chip erase
+ *   5      operation: 0 none; 1 program; 2 suspended program (below); 3 block erase in its window; 4 block erase;
+ *          5 suspended erase; 6 suspended erase with a program running inside; 7 chip erase
  *   6-10   the listed blocks of an erase: block n is bit n % 64 of word 6 + n / 64
  *   11     the block in hand
  *   12     the microseconds left of it; in the window (3), of the window
@@ -74,6 +74,9 @@ enum {
  *   18-22  the blocks whose DYB is 1, bit by bit as above
  *   23-27  the blocks whose PPB is 1
  *   28     the PPB lock bit
+ *
+ * No call suspends a program any more, so none makes a 2 of another operation. A record that was stored with one is still
+ * sound: its block shows its status, 90H and 58H work, 30H resumes the program, and a cut treats it as it always did.
  */
 enum {
     K5L_LAYOUT = 1,

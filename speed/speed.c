@@ -130,6 +130,7 @@ static void nothing(const struct side *side) { (void)side; }
 static void read_other_bank(const struct side *side) { side->read(OTHER_BANK_AT); }
 static void read_bank(const struct side *side) { side->read(BLOCK_AT); }
 static void write_reset(const struct side *side) { side->write(OTHER_BANK_AT, 0xF0); }
+static void write_suspend(const struct side *side) { side->write(OTHER_BANK_AT, 0xB0); }
 static void write_out_of_turn(const struct side *side) { side->write(OTHER_BANK_AT, 0x1234); }
 static void wait_1(const struct side *side) { side->wait(1); }
 static void wait_long(const struct side *side) { side->wait(10000000000000); }
@@ -153,6 +154,8 @@ static const struct kind {
     { "status-read-96-blocks", 300000, 0x4C, false, prepare_erase, read_bank },
     { "write-refused-sequence", 300000, K5L_SEQUENCE, false, prepare_idle, write_out_of_turn },
     { "write-refused-busy", 300000, K5L_BUSY, false, prepare_erase, write_reset },
+    { "b0-in-program-busy-restored", 300000, K5L_BUSY, true, prepare_program, write_suspend },
+    { "b0-in-erase-96-blocks-restored", 300000, K5L_DONE, true, prepare_erase, write_suspend },
     { "program-four-writes-restored", 100000, K5L_DONE, true, prepare_idle, write_program },
     { "wait-1us-idle-restored", 300000, K5L_DONE, true, prepare_idle, wait_1 },
     { "wait-1e13us-idle-restored", 300000, K5L_DONE, true, prepare_idle, wait_long },

@@ -1,6 +1,7 @@
 /*
  * A long random run, the library beside the model: after every event the answer, the record, the questions about it and the
- * cells must be the same. Commands are mostly entered as a driver would, with faults between; the seed is the argument.
+ * cells must be the same. Commands are mostly entered as a driver would, with faults between; now and then a program comes as
+ * it was stored when B0H still suspended one. The seed is the argument.
  *
  *     compare [SEED [EVENTS-ON-THE-SMALL-PART [EVENTS-ON-THE-FULL-PART]]]
  */
@@ -171,11 +172,15 @@ static size_t some_debris(const struct pair *pair)
     return once_in(3) && needed > 0 ? (once_in(2) ? needed - 1 : below(needed)) : needed + below(2);
 }
 
+/* No event suspends a program. */
 static void put(struct pair *pair, const struct event *event)
 {
+    bool held = now(pair).operation == MODEL_SUSPENDED_PROGRAM;
+
     operations[now(pair).operation]++;
     refusals[pair_event(pair, event) >> 16]++;
     pair_questions(pair);
+    HOLDS(held || now(pair).operation != MODEL_SUSPENDED_PROGRAM);
 }
 
 /* An event on what is lent wrongly: a length, or a record with a bit flipped, which may then still be sound. */
@@ -247,6 +252,8 @@ static void run(uint64_t part, unsigned long events)
         if (once_in(200))
             put_wrongly(&pair, &event);
         put(&pair, &event);
+        if (pair.image[5] == MODEL_PROGRAM && once_in(20))
+            pair.image[5] = MODEL_SUSPENDED_PROGRAM; /* as an older device stored it */
         if (pair.image[1] > 99999999000000 && once_in(100)) {
             SAME(k5l_fresh(pair.image, pair.words), K5L_DONE);
             planned = done = 0;
@@ -268,8 +275,10 @@ int main(int count, char **arguments)
     run(K5L_SMALL, small);
     run(K5L_FULL, full);
     printf("compare: events in operation 0 to 7:");
-    for (int i = 0; i <= MODEL_CHIP_ERASE; i++)
+    for (int i = 0; i <= MODEL_CHIP_ERASE; i++) {
         printf(" %lu", operations[i]);
+        HOLDS(operations[i] > 0);
+    }
     printf("\ncompare: answers 0 to 11:");
     for (int i = 0; i < REFUSALS; i++) {
         printf(" %lu", refusals[i]);

@@ -6,8 +6,10 @@
 #include "k5l2931cam.h"
 
 /* Words of the record, and some of their values, by the header's table. */
-enum { CLOCK = 1, COMMAND = 3, OPERATION = 5, LIST = 6, HAND = 11, LEFT = 12, DYBS = 18, PPBS = 23, LOCK = 28 };
-enum { GROUND = 0, AFTER_A0 = 3, IDENTITY = 11, NO_OPERATION = 0, SUSPENDED_ERASE = 5, CHIP_ERASE = 7 };
+enum { CLOCK = 1, CHARGE = 2, COMMAND = 3, OPERATION = 5, LIST = 6, HAND = 11, LEFT = 12, ADDRESS = 14, DATA = 15,
+       PROGRAM_LEFT = 16, PROGRAM_DQ6 = 17, DYBS = 18, PPBS = 23, LOCK = 28 };
+enum { GROUND = 0, AFTER_A0 = 3, IDENTITY = 11 };
+enum { NO_OPERATION = 0, PROGRAM = 1, SUSPENDED_PROGRAM = 2, SUSPENDED_ERASE = 5, CHIP_ERASE = 7 };
 
 static const uint64_t CLOCK_LIMIT = 100000000000000;
 

@@ -123,12 +123,12 @@ static uint64_t write_in_window(struct model_record *record, uint64_t block, uns
     return data == 0xB0 ? MODEL_DONE : MODEL_SEQUENCE;
 }
 
-/* B0H suspends a running block erase or a running program, and nothing else that runs. */
+/* B0H suspends a running block erase, and nothing else that runs: no program any more (document 02, request 9). */
 static uint64_t write_while_running(struct model_record *record, unsigned data)
 {
-    if (data != 0xB0 || (record->operation != MODEL_BLOCK_ERASE && record->operation != MODEL_PROGRAM))
+    if (data != 0xB0 || record->operation != MODEL_BLOCK_ERASE)
         return MODEL_BUSY;
-    record->operation = record->operation == MODEL_PROGRAM ? MODEL_SUSPENDED_PROGRAM : MODEL_SUSPENDED_ERASE;
+    record->operation = MODEL_SUSPENDED_ERASE;
     return MODEL_DONE;
 }
 

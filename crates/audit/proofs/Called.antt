@@ -20,14 +20,14 @@ use Rattle.audit.specs.Called.{called, callable, CallsStaySound, CallsNe
 use Rattle.audit.proofs.Data.{short-fits, image-short, step-short}
 
 module _ (part : ℕ) (i cells : List ℕ) where
-  called-none : (e : Event) → stands part i ≡ false → called part i cells e ≡ state i cells
+  pub called-none : (e : Event) → stands part i ≡ false → called part i cells e ≡ state i cells
   unfolding called
   called-none (read a) = read-none part i cells a
   called-none (write a w) = write-none part i cells a w
   called-none (wait n) = wait-none part i cells n
   called-none (cut debris) = cut-none part i cells debris
 
-  called-some : (e : Event) → stands part i ≡ true → called part i cells e ≡ shown (step (partNamed part) (deviceOf i) (lent cells) e)
+  pub called-some : (e : Event) → stands part i ≡ true → called part i cells e ≡ shown (step (partNamed part) (deviceOf i) (lent cells) e)
   unfolding called step
   called-some (read a) = read-some part i cells a
   called-some (write a w) = write-some part i cells a w

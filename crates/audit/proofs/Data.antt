@@ -1,38 +1,30 @@
 -- The data of a record's program has 16 bits if that of each write has: so every record that a call leaves has an image.
 use Prim.Native.Nat.{ℕ, _<_}
-use mathlib.Core.Path.{_≡_, refl, subst}
-use mathlib.Core.Bool.{Bool, true, false}
+use mathlib.Core.Path.{_≡_, refl}
+use mathlib.Core.Bool.{Bool, true}
 use mathlib.Core.List.{List}
 use native.Mathlib.Nat.{mod-lt}
 use lib.Dec.{eqb, lit<}
-use borrow.Author.Tests.{ltb-true, not-false}
+use borrow.Author.Tests.{ltb-true}
 use Rattle.geometry.specs.declared.Part.{Part}
-use Rattle.geometry.specs.Parts.{wordCount}
-use Rattle.plain.specs.declared.Refusal.{Refusal}
-use Rattle.plain.specs.declared.Refusal.the-variants.{Address, Clock, Debris}
 use Rattle.plain.specs.declared.Erase.{Erase}
 use Rattle.plain.specs.declared.Inside.{Inside}
 use Rattle.plain.specs.declared.Inside.the-variants.{Nothing, Runs}
 use Rattle.plain.specs.declared.Operation.{Operation}
 use Rattle.plain.specs.declared.Operation.the-variants.{Idle, Programming, ProgramSuspended, Window, Erasing, EraseSuspended, ChipErasing}
-use Rattle.plain.specs.declared.Effect.{Effect}
-use Rattle.plain.specs.declared.Effect.the-variants.{Goes, Starts, Protects, Falls, Stays, Drops}
+use Rattle.plain.specs.declared.Effect.the-variants.{Starts}
 use Rattle.plain.specs.declared.Device.{Device}
-use Rattle.plain.specs.Commands.{effected}
-use Rattle.plain.specs.Events.{Event, read, write, wait, cut}
+use Rattle.plain.specs.Events.{Event, write}
 use Rattle.plain.specs.Lent.{Lent}
-use Rattle.plain.specs.Machine.{Outcome, ladder, now, Fit, readEvent, writeEvent, waitEvent, cutEvent, step}
-use Rattle.plain.specs.Status.{look}
-use Rattle.plain.proofs.Data.{insideData, dataOf, Short, short-ticks}
-use Rattle.plain.proofs.Facts.{sound-bits, sound-operation, sound-command}
-use Rattle.plain.proofs.Ladder.{by-ladder}
+use Rattle.plain.specs.Machine.{step}
+use Rattle.plain.proofs.Data.{insideData, dataOf, Short, short-lasts}
 use Rattle.plain.proofs.Tools.{by-test}
-use Rattle.history.proofs.KeptWrite.{Fine, goes, starts, protects, falls, stays, drops, written-fine}
+use Rattle.history.proofs.KeptOperation.{step-keeps}
+use Rattle.history.proofs.KeptWrite.{Fine, starts}
 use Rattle.layout.specs.declared.OperationParts.{OperationParts}
 use Rattle.layout.specs.Operations.{suspendedParts, operationParts, operationOf}
 use Rattle.layout.specs.Image.{deviceOf, partsOf}
 use Rattle.layout.proofs.Round.{Fits}
-use Rattle.layout.proofs.Toggles.{look-flips}
 use Rattle.audit.specs.Called.{callable}
 
 -- ---- by the words for C
@@ -72,31 +64,14 @@ image-short i = of-parts (partsOf i) (mod-lt _ (lit< tt))
 
 -- ---- by the events
 
-module _ (p : Part) (r : Device) (l : Lent) (h : Short (r .operation)) where
-  abbrev ShortAfter : Outcome → Type 0
-  ShortAfter o = Short (o .answer .device .operation)
+-- the word of a write is short
+word-short : (e : Event) → callable e ≡ true → (a w : ℕ) → e ≡ write a w → w < 65536
+unfolding callable
+word-short e c a w is = ltb-true w 65536 (rw is at c)
 
-  climbs : (fails : Bool) (own : Refusal) (taken : Outcome) → (Fit p r l → fails ≡ false → ShortAfter taken) → ShortAfter (ladder p r l fails own taken)
-  climbs fails own taken f = by-ladder p r l fails own taken ShortAfter (λ _. h) h (λ _. h) f
+starts-short : {p : Part} {w : ℕ} (r : Device) → w < 65536 → Short (r .operation) → (x : Operation) → Fine p (r .bits) w (r .operation) (Starts x) → Short x
+starts-short r g h x (starts _ short _) = short g h
 
-  short-effect : {w : ℕ} (e : Effect) → w < 65536 → Fine p (r .bits) w (r .operation) e → Short (effected r e .device .operation)
-  unfolding effected dataOf
-  short-effect (Goes c) g (goes _) = h
-  short-effect (Starts o) g (starts _ short) = short g h
-  short-effect (Protects new) g (protects _ _) = h
-  short-effect (Falls n) g (falls _) = h
-  short-effect (Stays n) g (stays _) = h
-  short-effect Drops g drops = lit< tt
-
-  pub step-short : (e : Event) → callable e ≡ true → ShortAfter (step p r l e)
-  unfolding step readEvent writeEvent waitEvent cutEvent callable dataOf
-  step-short (read a) c =
-      climbs _ Address _
-      (λ _ _. rw (← data-told (look p (r .bits) (r .command) (r .operation) l a .operation))
-      (subst (λ (o : OperationParts). o .program .writes .word < 65536) (look-flips p (r .bits) (r .command) (r .operation) l a) (short-fits r h)))
-  step-short (write a w) c =
-      climbs _ Address _
-      (λ f t. short-effect _ (ltb-true w 65536 c)
-      (written-fine p (r .bits) (sound-bits p r (f .sound)) a w (ltb-true a (wordCount p) (not-false _ t)) (r .operation) (r .command) (sound-operation p r (f .sound) (r .operation) refl) (sound-command p r (f .sound))))
-  step-short (wait n) c = climbs _ Clock _ (λ _ _. short-ticks p n (now r l) h)
-  step-short (cut debris) c = climbs _ Debris _ (λ _ _. lit< tt)
+pub step-short : (p : Part) (r : Device) (l : Lent) → Short (r .operation) → (e : Event) → callable e ≡ true → Short (step p r l e .answer .device .operation)
+step-short p r l h e c =
+    step-keeps p r l Short short-lasts h e (λ o same. rw (same .word) h) (λ a w is. starts-short r (word-short e c a w is) h)

@@ -4,3 +4,4 @@ pub mod Carried
 pub mod Ends
 pub mod Data
 pub mod Called
+pub mod SuspendedProgram

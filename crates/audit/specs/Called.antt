@@ -2,7 +2,7 @@
 use Prim.Native.Nat.{ℕ}
 use mathlib.Core.Path.{_≡_}
 use mathlib.Core.Bool.{Bool, true}
-use mathlib.Core.List.{List}
+use mathlib.Core.List.{List, [], _∷_}
 use lib.Dec.{ltb}
 use Rattle.plain.specs.Events.{Event, read, write, wait, cut}
 use Rattle.face.specs.Face.{Faced, standsSound, faceRead, faceWrite, faceWait, faceCut}
@@ -13,6 +13,11 @@ called part i cells (read a) = faceRead part i cells a
 called part i cells (write a w) = faceWrite part i cells a w
 called part i cells (wait n) = faceWait part i cells n
 called part i cells (cut debris) = faceCut part i cells debris
+
+-- the words after a run of calls, each on words and cells as the one before left them
+unfoldable pub wordsAfter : (part : ℕ) → (words cells : List ℕ) → List Event → List ℕ
+wordsAfter part i cells [] = i
+wordsAfter part i cells (e ∷ es) = wordsAfter part (called part i cells e .image) (called part i cells e .cells) es
 
 -- the word of a write is a `uint16_t`
 unfoldable pub callable : Event → Bool

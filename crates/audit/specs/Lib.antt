@@ -1,3 +1,4 @@
 pub mod Performed
 pub mod Ends
 pub mod Called
+pub mod SuspendedProgram

@@ -21,9 +21,11 @@ use Rattle.plain.specs.declared.Place.the-variants.{At}
 use Rattle.plain.specs.declared.BegunProgram.the-variants.{Writes}
 use Rattle.plain.specs.Figures.{programTime, eraseTime, chipTime}
 use Rattle.plain.specs.Programs.{blockWritten}
+use Rattle.plain.specs.Operations.{suspensionOf}
 use Rattle.plain.specs.Sound.{operationSound}
+use Rattle.plain.specs.Commands.{programIsSuspended}
 use Rattle.plain.specs.Cut.{begun, ifBegun, begunBlock, programBegun, begunInside, begunProgram}
-use Rattle.plain.specs.History.{Doing, programs, pauses, erases, wipes, rests, programsIn}
+use Rattle.plain.specs.History.{Doing, programs, erases, wipes, rests, programsIn}
 use Rattle.plain.specs.Promises.{ProgramBegun, EraseBegun}
 use Rattle.plain.specs.Promises as said
 use Rattle.plain.proofs.Tools.{by-test, clash}
@@ -31,6 +33,7 @@ use Rattle.plain.proofs.BegunSound.{begins}
 use Rattle.plain.proofs.CutCells.{nowhere, no-program}
 use Rattle.plain.proofs.Facts.{EraseFacts, erasing, erase-suspended, chip-erasing, inside-runs}
 use Rattle.plain.proofs.Ends.{erasable-free}
+use Rattle.plain.proofs.SuspendedProgram.{Awake}
 use Rattle.history.proofs.Seen.{seenInside, seenOp}
 
 -- ---- a block, or a program, that has begun
@@ -58,15 +61,15 @@ module _ (p : Part) where
   inside-program-told e Nothing d h = no-program h
   inside-program-told e (Runs q) d h = let b = begins p q d h in rw (← b .what) (said.inside (b .time))
 
-  pub program-told : (o : Operation) (d : Written) → begunProgram p o ≡ Writes d → ProgramBegun (seenOp p o) d
-  unfolding begunProgram seenOp
-  program-told Idle d h = no-program h
-  program-told (Programming q) d h = let b = begins p q d h in rw (← b .what) (said.ProgramBegun.running (b .time))
-  program-told (ProgramSuspended q) d h = let b = begins p q d h in rw (← b .what) (said.paused (b .time))
-  program-told (Window e) d h = no-program h
-  program-told (Erasing e) d h = no-program h
-  program-told (EraseSuspended x) d h = inside-program-told (x .erase) (x .inside) d h
-  program-told (ChipErasing e) d h = no-program h
+  pub program-told : (o : Operation) (d : Written) → Awake o → begunProgram p o ≡ Writes d → ProgramBegun (seenOp p o) d
+  unfolding begunProgram seenOp suspensionOf programIsSuspended
+  program-told Idle d w h = no-program h
+  program-told (Programming q) d w h = let b = begins p q d h in rw (← b .what) (said.ProgramBegun.running (b .time))
+  program-told (ProgramSuspended q) d w h = clash refl w
+  program-told (Window e) d w h = no-program h
+  program-told (Erasing e) d w h = no-program h
+  program-told (EraseSuspended x) d w h = inside-program-told (x .erase) (x .inside) d h
+  program-told (ChipErasing e) d w h = no-program h
 
   inside-block-told : (e : Erase) (i : Inside) (b : ℕ) → ifBegun (e .left) (eraseTime p) (e .hand) ≡ At b → EraseBegun (seenInside p e i) b
   unfolding seenInside
@@ -94,7 +97,6 @@ module _ (p : Part) where
   pub program-is : (o : Operation) (d : Written) → ProgramBegun (seenOp p o) d → begunProgram p o ≡ Writes d
   unfolding seenOp begunProgram
   program-is (Programming q) d (said.ProgramBegun.running g) = writing p q g
-  program-is (ProgramSuspended q) d (said.paused g) = writing p q g
   program-is (EraseSuspended x) d g = inside-program-is (x .erase) (x .inside) d g
 
   inside-block-is : (e : Erase) (i : Inside) (b : ℕ) → EraseBegun (seenInside p e i) b → ifBegun (e .left) (eraseTime p) (e .hand) ≡ At b
@@ -112,7 +114,6 @@ module _ (p : Part) where
 
   pub same-program : (h : Doing) {d e : Written} → ProgramBegun h d → ProgramBegun h e → d ≡ e
   same-program (programs d g) (said.ProgramBegun.running u) (said.ProgramBegun.running v) = refl
-  same-program (pauses d g) (said.paused u) (said.paused v) = refl
   same-program (programsIn d g l b eg) (said.inside u) (said.inside v) = refl
 
   pub same-block : (h : Doing) {b c : ℕ} → EraseBegun h b → EraseBegun h c → b ≡ c

@@ -20,12 +20,15 @@ use Rattle.plain.specs.declared.Place.{Place}
 use Rattle.plain.specs.Choice.{if_then_else_}
 use Rattle.plain.specs.Figures.{programTime, eraseTime, chipTime}
 use Rattle.plain.specs.Lent.{Lent}
+use Rattle.plain.specs.Operations.{suspensionOf}
 use Rattle.plain.specs.Sound.{operationSound}
+use Rattle.plain.specs.Commands.{programIsSuspended}
 use Rattle.plain.specs.Cut.{begun, ifBegun, begunBlock, programBegun, begunInside, begunProgram, blockDebris, debrisNeeded, blockCut, programCut, cutLent}
 use Rattle.plain.specs.History.{Fact, eraseCuts, programCuts, cuts}
 use Rattle.plain.proofs.CutCells.{length-block}
-use Rattle.plain.proofs.Facts.{ProgramFacts, programming, program-suspended, inside-runs}
-use Rattle.plain.proofs.Tools.{by-cases}
+use Rattle.plain.proofs.Facts.{ProgramFacts, programming, inside-runs}
+use Rattle.plain.proofs.SuspendedProgram.{Awake}
+use Rattle.plain.proofs.Tools.{by-cases, clash}
 use Rattle.history.proofs.Seen.{seenInside, seenOp}
 use Rattle.history.proofs.Holds.{Holds, holds-cut-program, holds-cut-erase}
 
@@ -69,13 +72,13 @@ module _ (p : Part) (bits : Protection) where
         (length-block p debris l long (block-of x) enough ∙ long) (inside-runs p bits x q s d .program)
         (block-holds debris fs l (x .erase .left) (eraseTime p) (x .erase .hand) long enough h))
 
-    pub cut-holds : (debris : List ℕ) (o : Operation) → operationSound p bits o ≡ true → (fs : List Fact) (l : Lent) → length (l .cells) ≡ wordCount p → debrisNeeded p o ≤ length debris → Holds p start fs l
+    pub cut-holds : (debris : List ℕ) (o : Operation) → Awake o → operationSound p bits o ≡ true → (fs : List Fact) (l : Lent) → length (l .cells) ≡ wordCount p → debrisNeeded p o ≤ length debris → Holds p start fs l
         → Holds p start (cuts p (seenOp p o) debris fs) (cutLent p o debris l)
-    unfolding cuts seenOp cutLent debrisNeeded begunBlock begunProgram programCut blockCut blockDebris
-    cut-holds debris Idle f fs l long enough h = h
-    cut-holds debris (Programming q) f fs l long enough h = program-holds debris fs l q long (programming p bits q f) h
-    cut-holds debris (ProgramSuspended q) f fs l long enough h = program-holds debris fs l q long (program-suspended p bits q f) h
-    cut-holds debris (Window e) f fs l long enough h = h
-    cut-holds debris (Erasing e) f fs l long enough h = block-holds debris fs l (e .left) (eraseTime p) (e .hand) long (omega (arith, enough)) h
-    cut-holds debris (EraseSuspended x) f fs l long enough h = inside-holds debris x (x .inside) refl f fs l long (omega (arith, enough)) h
-    cut-holds debris (ChipErasing e) f fs l long enough h = block-holds debris fs l (e .left) (chipTime p) (e .hand) long (omega (arith, enough)) h
+    unfolding cuts seenOp cutLent debrisNeeded begunBlock begunProgram programCut blockCut blockDebris suspensionOf programIsSuspended
+    cut-holds debris Idle w f fs l long enough h = h
+    cut-holds debris (Programming q) w f fs l long enough h = program-holds debris fs l q long (programming p bits q f) h
+    cut-holds debris (ProgramSuspended q) w f fs l long enough h = clash refl w
+    cut-holds debris (Window e) w f fs l long enough h = h
+    cut-holds debris (Erasing e) w f fs l long enough h = block-holds debris fs l (e .left) (eraseTime p) (e .hand) long (omega (arith, enough)) h
+    cut-holds debris (EraseSuspended x) w f fs l long enough h = inside-holds debris x (x .inside) refl f fs l long (omega (arith, enough)) h
+    cut-holds debris (ChipErasing e) w f fs l long enough h = block-holds debris fs l (e .left) (chipTime p) (e .hand) long (omega (arith, enough)) h

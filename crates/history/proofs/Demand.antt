@@ -31,6 +31,8 @@ use Rattle.plain.proofs.CutCells.{Lies, program-out, program-hit, block-out, bl
 use Rattle.plain.proofs.Facts.{sound-operation}
 use Rattle.plain.proofs.Ladder.{by-ladder}
 use Rattle.plain.proofs.Programs.{written-in-block, one-written}
+use Rattle.plain.proofs.SuspendedProgram.{Awake}
+use Rattle.history.proofs.Awake.{fresh-awake, no-run-suspends-program}
 use Rattle.history.proofs.Seen.{seenOp, seen}
 use Rattle.history.proofs.Holds.{Holds}
 use Rattle.history.proofs.Runs.{run-told}
@@ -39,7 +41,7 @@ use Rattle.history.proofs.Begun.{program-told, block-told, program-is, 
 -- ---- what the cut leaves, given the record
 
 module _ (p : Part) (start : Lent) (fs : List Fact) (r : Device) (l : Lent) (debris : List ℕ) (fit : Fit p r l)
-    (enough : debrisNeeded p (r .operation) ≤ length debris) (h : Holds p start fs l) where
+    (enough : debrisNeeded p (r .operation) ≤ length debris) (awake : Awake (r .operation)) (h : Holds p start fs l) where
   op-sound : operationSound p (r .bits) (r .operation) ≡ true
   op-sound = sound-operation p r (fit .sound) (r .operation) refl
 
@@ -85,7 +87,7 @@ module _ (p : Part) (start : Lent) (fs : List Fact) (r : Device) (l : Lent) (deb
   unfolding Holds
   left =
       record {
-        others = λ x hx nw nb. missed x (λ d e. nw d (program-told p (r .operation) d e)) (λ b e d. nb (rw d (block-told p (r .operation) b e))) ∙ h x hx;
+        others = λ x hx nw nb. missed x (λ d e. nw d (program-told p (r .operation) d awake e)) (λ b e d. nb (rw d (block-told p (r .operation) b e))) ∙ h x hx;
         word = λ x d hx g t. rw (← h x hx) (word-left x d g t);
         block = λ x hx g. block-left x hx g;
         one-word = λ x y d e f g t u. one-written p d x y t (ap (λ (w : Written). writes w y) (same-program p (seenOp p (r .operation)) f g) ∙ u);
@@ -106,29 +108,29 @@ module _ (p : Part) (start : Lent) (fs : List Fact) (r : Device) (l : Lent) (deb
   Claim : Outcome → Type 0
   Claim o = o .answer .refusal ≡ Done → Left p start (seen p r fs) r l debris o
 
-  accepted : Holds p start fs l → Claim (step p r l (cut debris))
+  accepted : Awake (r .operation) → Holds p start fs l → Claim (step p r l (cut debris))
   unfolding Claim step cutEvent
-  accepted h =
+  accepted awake h =
       by-ladder p r l _ Debris _ Claim (λ s e. let z : _≡_ {A = ℕ} 0 1 = cc in absurd (omega arith)) (λ e. let z : _≡_ {A = ℕ} 0 1 = cc in absurd (omega arith))
       (λ f e. let z : _≡_ {A = ℕ} 0 1 = cc in absurd (omega arith))
-      (λ f t e. left p start fs r l debris f (ltb-false (length debris) (debrisNeeded p (r .operation)) t) h)
+      (λ f t e. left p start fs r l debris f (ltb-false (length debris) (debrisNeeded p (r .operation)) t) awake h)
 
 pub demand-3 : (p : Part) → Demand3 p
 unfolding seenOp Holds holds Claim
 demand-3 p start es debris e =
-    let t = run-told p start fresh start [] es in
+    let t = run-told p start fresh start [] es fresh-awake in
     let ran = run p fresh start es in
     subst (λ (h : Told). Left p start h (ran .device) (ran .lent) debris (step p (ran .device) (ran .lent) (cut debris))) (sym (t .tells))
-    (accepted p start (t .facts) (ran .device) (ran .lent) debris (t .hold (λ x hx. refl)) e)
+    (accepted p start (t .facts) (ran .device) (ran .lent) debris (no-run-suspends-program p start es) (t .hold (λ x hx. refl)) e)
 
 pub holding : (p : Part) → Holding p
 unfolding seenOp Holds holds
 holding p start es x hx =
-    let t = run-told p start fresh start [] es in
+    let t = run-told p start fresh start [] es fresh-awake in
     t .hold (λ y hy. refl) x hx ∙ ap (λ (h : Told). holds p start (h .facts) x) (sym (t .tells))
 
 pub charge-by-history : (p : Part) → ChargeByHistory p
 unfolding seenOp
 charge-by-history p start es =
-    let t = run-told p start fresh start [] es in
+    let t = run-told p start fresh start [] es fresh-awake in
     record { clock = sym (ap (λ (h : Told). h .clock) (t .tells)); charge = sym (ap (λ (h : Told). h .charge) (t .tells)) }

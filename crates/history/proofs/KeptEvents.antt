@@ -68,12 +68,12 @@ module _ (p : Part) (r : Device) (s : sound p r ≡ true) (l : Lent) where
   read-kept a =
       let x = look-alike p (r .bits) (r .command) (r .operation) l a in
       kept _ Address _ refl
-      (λ _ _. changed Done _ _ _ _ _ refl (sound-bits p r s) (x .0 ∙ operation-sound) (x .1 (r .command) ∙ sound-command p r s))
+      (λ _ _. changed Done _ _ _ _ _ refl (sound-bits p r s) (x .operation ∙ operation-sound) (x .command (r .command) ∙ sound-command p r s))
 
   effect-kept : {w : ℕ} (e : Effect) → Fine p (r .bits) w (r .operation) e → Kept p (outcome (effected r e) l)
   unfolding effected number
   effect-kept (Goes c) (goes h) = changed Done 0 c (r .operation) (r .bits) l refl (sound-bits p r s) operation-sound h
-  effect-kept (Starts o) (starts h _) = changed Done 0 Ground o (r .bits) l refl (sound-bits p r s) h (ground-sound p o)
+  effect-kept (Starts o) (starts h _ _) = changed Done 0 Ground o (r .bits) l refl (sound-bits p r s) h (ground-sound p o)
   effect-kept (Protects new) (protects g h) = changed Done 0 Ground (r .operation) new l refl g h (ground-sound p (r .operation))
   effect-kept (Falls n) (falls h) = changed n 0 Ground (r .operation) (r .bits) l h (sound-bits p r s) operation-sound (ground-sound p (r .operation))
   effect-kept (Stays n) (stays h) = unchanged n h

@@ -1,4 +1,4 @@
--- What a read flips, soundness does not look at.
+-- What a read flips, soundness does not look at; it leaves the data of a program, and suspends none.
 use Prim.Native.Nat.{ℕ}
 use mathlib.Core.Path.{_≡_, refl}
 use Rattle.geometry.specs.declared.Part.{Part}
@@ -15,28 +15,41 @@ use Rattle.plain.specs.declared.Seen.{Seen}
 use Rattle.plain.specs.Lent.{Lent}
 use Rattle.plain.specs.Operations.{runningInside, runningOf, suspensionOf}
 use Rattle.plain.specs.Record.{suspended}
+use Rattle.plain.specs.Commands.{programIsSuspended}
 use Rattle.plain.specs.Sound.{programSound, listSound, chipListSound, lowest, insideSound, operationSound, isStill, stillCommand, cycleSound, commandSound}
 use Rattle.plain.specs.Status.{polls, polled, insidePolled, readingOn, rests, rested, look}
+use Rattle.plain.specs.SuspendedProgram.{programRests}
+use Rattle.plain.proofs.Data.{insideData, dataOf}
 use Rattle.plain.proofs.Tools.{by-test}
 
-abbrev pub Alike : Part → Protection → (o x : Operation) → Type 0
-Alike p bits o x = (operationSound p bits x ≡ operationSound p bits o) × ((c : Command) → commandSound p x c ≡ commandSound p o c)
-
 module _ (p : Part) (bits : Protection) where
-  inside-polled : (e : Erase) (i : Inside) → Alike p bits (EraseSuspended (suspended e i)) (EraseSuspended (suspended e (insidePolled i)))
-  unfolding insidePolled operationSound insideSound programSound commandSound isStill runningOf runningInside suspensionOf
-  inside-polled e Nothing = (refl, λ c. refl)
-  inside-polled e (Runs q) = (refl, λ c. refl)
+  pub record Alike (o x : Operation) : Type 0 where
+    pub operation : operationSound p bits x ≡ operationSound p bits o
+    pub command : (c : Command) → commandSound p x c ≡ commandSound p o c
+    pub word : dataOf x ≡ dataOf o
+    pub resting : programRests x ≡ programRests o
 
-  polled-alike : (o : Operation) (a : ℕ) → Alike p bits o (polled p o a)
-  unfolding polled operationSound programSound listSound chipListSound lowest commandSound isStill runningOf suspensionOf
-  polled-alike Idle a = (refl, λ c. refl)
-  polled-alike (Programming q) a = (refl, λ c. refl)
-  polled-alike (ProgramSuspended q) a = (refl, λ c. refl)
-  polled-alike (Window e) a = (refl, λ c. refl)
-  polled-alike (Erasing e) a = (refl, λ c. refl)
+  alike : {o x : Operation} → operationSound p bits x ≡ operationSound p bits o → ((c : Command) → commandSound p x c ≡ commandSound p o c) → dataOf x ≡ dataOf o → programRests x ≡ programRests o
+      → Alike o x
+  alike f g d h = record { operation = f; command = g; word = d; resting = h }
+
+  itself : (o : Operation) → Alike o o
+  itself o = alike refl (λ c. refl) refl refl
+
+  inside-polled : (e : Erase) (i : Inside) → Alike (EraseSuspended (suspended e i)) (EraseSuspended (suspended e (insidePolled i)))
+  unfolding insidePolled operationSound insideSound programSound commandSound isStill runningOf runningInside suspensionOf dataOf insideData
+  inside-polled e Nothing = alike refl (λ c. refl) refl refl
+  inside-polled e (Runs q) = alike refl (λ c. refl) refl refl
+
+  polled-alike : (o : Operation) (a : ℕ) → Alike o (polled p o a)
+  unfolding polled operationSound programSound listSound chipListSound lowest commandSound isStill runningOf suspensionOf dataOf programIsSuspended
+  polled-alike Idle a = alike refl (λ c. refl) refl refl
+  polled-alike (Programming q) a = alike refl (λ c. refl) refl refl
+  polled-alike (ProgramSuspended q) a = alike refl (λ c. refl) refl refl
+  polled-alike (Window e) a = alike refl (λ c. refl) refl refl
+  polled-alike (Erasing e) a = alike refl (λ c. refl) refl refl
   polled-alike (EraseSuspended s) a = inside-polled (s .erase) (s .inside)
-  polled-alike (ChipErasing e) a = (refl, λ c. refl)
+  polled-alike (ChipErasing e) a = alike refl (λ c. refl) refl refl
 
   -- of a suspended erase the register asks nothing more
   same-erase : (e x : Erase) (c : Command) → stillCommand p (OfErase e) c ≡ stillCommand p (OfErase x) c
@@ -45,26 +58,26 @@ module _ (p : Part) (bits : Protection) where
   same-erase e x (Entering c) = refl
   same-erase e x (Reads r) = refl
 
-  inside-rested : (e : Erase) (i : Inside) → Alike p bits (EraseSuspended (suspended e i)) (rested (EraseSuspended (suspended e i)))
-  unfolding rested operationSound listSound insideSound commandSound isStill runningOf runningInside suspensionOf
-  inside-rested e Nothing = (refl, λ c. same-erase _ e c)
-  inside-rested e (Runs q) = (refl, λ c. refl)
+  inside-rested : (e : Erase) (i : Inside) → Alike (EraseSuspended (suspended e i)) (rested (EraseSuspended (suspended e i)))
+  unfolding rested operationSound listSound insideSound commandSound isStill runningOf runningInside suspensionOf dataOf programIsSuspended
+  inside-rested e Nothing = alike refl (λ c. same-erase _ e c) refl refl
+  inside-rested e (Runs q) = alike refl (λ c. refl) refl refl
 
-  rested-alike : (o : Operation) → Alike p bits o (rested o)
+  rested-alike : (o : Operation) → Alike o (rested o)
   unfolding rested
-  rested-alike Idle = (refl, λ c. refl)
-  rested-alike (Programming q) = (refl, λ c. refl)
-  rested-alike (ProgramSuspended q) = (refl, λ c. refl)
-  rested-alike (Window e) = (refl, λ c. refl)
-  rested-alike (Erasing e) = (refl, λ c. refl)
+  rested-alike Idle = itself _
+  rested-alike (Programming q) = itself _
+  rested-alike (ProgramSuspended q) = itself _
+  rested-alike (Window e) = itself _
+  rested-alike (Erasing e) = itself _
   rested-alike (EraseSuspended s) = inside-rested (s .erase) (s .inside)
-  rested-alike (ChipErasing e) = (refl, λ c. refl)
+  rested-alike (ChipErasing e) = itself _
 
-  pub look-alike : (c : Command) (o : Operation) (l : Lent) (a : ℕ) → Alike p bits o (look p bits c o l a .operation)
+  pub look-alike : (c : Command) (o : Operation) (l : Lent) (a : ℕ) → Alike o (look p bits c o l a .operation)
   unfolding look
   look-alike c o l a =
       by-test Same (polls p (runningOf o) a) (λ _. polled-alike o a)
-      (λ _. by-test Same (readingOn p c a) (λ _. (refl, λ c. refl)) (λ _. by-test Same (rests p (suspensionOf o) a) (λ _. rested-alike o) (λ _. (refl, λ c. refl))))
+      (λ _. by-test Same (readingOn p c a) (λ _. itself o) (λ _. by-test Same (rests p (suspensionOf o) a) (λ _. rested-alike o) (λ _. itself o)))
     where
       Same : Seen → Type 0
-      Same s = Alike p bits o (s .operation)
+      Same s = Alike o (s .operation)

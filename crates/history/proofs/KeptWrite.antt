@@ -1,4 +1,5 @@
--- Every write of a sound record has a fine effect: one that leaves the record sound, and the data of its program of 16 bits.
+-- Every write of a sound record has a fine effect: one that leaves the record sound and the data of its program of 16 bits, and that
+-- suspends no program.
 use Prim.Native.Nat.{ℕ, _<_, min}
 use mathlib.Core.Path.{_≡_, refl, sym, _∙_}
 use mathlib.Core.Bool.{Bool, true, false, _&&_, not}
@@ -28,12 +29,13 @@ use Rattle.plain.specs.declared.Cycle.the-variants.{Unlock, Unlocked, ProgramDa
 use Rattle.plain.specs.declared.Effect.{Effect}
 use Rattle.plain.specs.declared.Effect.the-variants.{Goes, Starts, Protects, Falls, Stays, Drops}
 use Rattle.plain.specs.Figures.{windowTime}
+use Rattle.plain.specs.Operations.{suspensionOf}
 use Rattle.plain.specs.Programs.{writing, blockWritten, liesIn}
 use Rattle.plain.specs.Record.{erase, suspended}
 use Rattle.plain.specs.Refusals.{number}
 use Rattle.plain.specs.Cycles.{isAt, is, firstUnlock, secondUnlock, isDyb}
 use Rattle.plain.specs.Sound.{operationSound, cycleInRange, readingInRange, cycleInSuspension, cycleSound, stillCommand, commandSound}
-use Rattle.plain.specs.Commands.{isSuspended, programIsSuspended, resumes, started, begins, orReset, unless, chipErase, blockErase, unlessLocked, atGround, afterUnlock, afterUnlocked, afterA0, after80, after80Unlock, after80Unlocked, after48, after60, after68, after6060, afterReading, continued, entered, addBlock, inWindow, orBusy, inSuspendedErase, written}
+use Rattle.plain.specs.Commands.{isSuspended, programIsSuspended, resumes, started, begins, orReset, unless, chipErase, blockErase, unlessLocked, atGround, afterUnlock, afterUnlocked, afterA0, after80, after80Unlock, after80Unlocked, after48, after60, after68, after6060, afterReading, continued, entered, addBlock, inWindow, inErase, inSuspendedErase, written}
 use Rattle.plain.proofs.Tools.{by-test, both-left, both-right}
 use Rattle.plain.proofs.Data.{insideData, dataOf, Short}
 use Rattle.plain.proofs.FigureLaws.{program-some}
@@ -41,6 +43,7 @@ use Rattle.plain.proofs.Facts.{ProgramFacts, window, window-lowest, erasing, er
 use Rattle.plain.proofs.FactsHold.{programming-holds, window-holds, resting-holds, inside-holds, chip-holds}
 use Rattle.plain.proofs.Register.{ground-sound, standing, command-standing}
 use Rattle.plain.proofs.SoundTime.{closed}
+use Rattle.plain.proofs.SuspendedProgram.{Awake}
 use Rattle.history.proofs.KeptRegister.{early, late, not-suspended, may-program}
 use Rattle.history.proofs.KeptLists.{opened, opened-low, added, added-low, chip-opened}
 
@@ -51,7 +54,7 @@ never n = eqb (number n) 1
 -- what the effect of the word w must be, so that the record it is applied to stays sound
 pub data Fine (p : Part) (bits : Protection) (w : ℕ) (o : Operation) : Effect → Type 0 where
   goes : {c : Command} → commandSound p o c ≡ true → Fine p bits w o (Goes c)
-  starts : {x : Operation} → operationSound p bits x ≡ true → (w < 65536 → Short o → Short x) → Fine p bits w o (Starts x)
+  starts : {x : Operation} → operationSound p bits x ≡ true → (w < 65536 → Short o → Short x) → Awake x → Fine p bits w o (Starts x)
   protects : {new : Protection} → strayBits p new ≡ false → operationSound p new o ≡ true → Fine p bits w o (Protects new)
   falls : {n : Refusal} → never n ≡ false → Fine p bits w o (Falls n)
   stays : {n : Refusal} → never n ≡ false → Fine p bits w o (Stays n)
@@ -86,32 +89,32 @@ module _ (p : Part) (bits : Protection) (none : strayBits p bits ≡ false) (a w
   -- ---- operations that start
 
   resumes-fine : (s : Suspension) → operationSound p bits (standing s) ≡ true → FineIn s (resumes s)
-  unfolding resumes standing operationSound dataOf number
+  unfolding resumes standing operationSound dataOf suspensionOf programIsSuspended number
   resumes-fine Unsuspended e = falls refl
-  resumes-fine (OfProgram q) e = starts e (λ g h. h)
-  resumes-fine (OfErase x) e = starts (both-left _ _ e) (λ g h. lit< tt)
+  resumes-fine (OfProgram q) e = starts e (λ g h. h) refl
+  resumes-fine (OfErase x) e = starts (both-left _ _ e) (λ g h. lit< tt) refl
 
   program-facts : protected bits (blockWritten p (writing a w)) ≡ false → ProgramFacts p bits (started p (writing a w))
   unfolding liesIn
   program-facts free = record { in-part = lt-ltb a (wordCount p) within; some-left = program-some p; most-left = omega arith; unprotected = free }
 
   begins-fine : (s : Suspension) → operationSound p bits (standing s) ≡ true → protected bits (blockWritten p (writing a w)) ≡ false → FineIn s (begins p s (writing a w))
-  unfolding begins standing dataOf insideData number
-  begins-fine Unsuspended e free = starts (programming-holds p bits _ (program-facts free)) (λ g h. g)
+  unfolding begins standing dataOf insideData suspensionOf programIsSuspended number
+  begins-fine Unsuspended e free = starts (programming-holds p bits _ (program-facts free)) (λ g h. g) refl
   begins-fine (OfProgram q) e free = falls refl
   begins-fine (OfErase x) e free =
       by-test (Fine p bits w (EraseSuspended (suspended x Nothing))) (has (x .list) (blockWritten p (writing a w))) (λ _. falls refl)
-      (λ off. starts (inside-holds p bits _ _ (erase-suspended p bits _ e) (record { program = program-facts free; off-list = off })) (λ g h. g))
+      (λ off. starts (inside-holds p bits _ _ (erase-suspended p bits _ e) (record { program = program-facts free; off-list = off })) (λ g h. g) refl)
 
   chip-fine : FineIn Unsuspended (chipErase p bits)
-  unfolding standing dataOf number
-  chip-fine = by-test (Fine p bits w Idle) (allProtected p bits) (λ _. falls refl) (λ h. starts (chip-holds p bits _ (chip-opened p bits h)) (λ g h. lit< tt))
+  unfolding standing dataOf suspensionOf programIsSuspended number
+  chip-fine = by-test (Fine p bits w Idle) (allProtected p bits) (λ _. falls refl) (λ h. starts (chip-holds p bits _ (chip-opened p bits h)) (λ g h. lit< tt) refl)
 
   block-fine : FineIn Unsuspended (blockErase p bits (blockOf p a))
-  unfolding standing dataOf number
+  unfolding standing dataOf suspensionOf programIsSuspended number
   block-fine =
       by-test (Fine p bits w Idle) (protected bits (blockOf p a)) (λ _. falls refl)
-      (λ h. starts (window-holds p bits _ (opened p bits (blockOf p a) block-below h) (λ n. opened-low p (blockOf p a) n block-below)) (λ g h. lit< tt))
+      (λ h. starts (window-holds p bits _ (opened p bits (blockOf p a) block-below h) (λ n. opened-low p (blockOf p a) n block-below)) (λ g h. lit< tt) refl)
 
   -- ---- protection that changes
 
@@ -191,11 +194,11 @@ module _ (p : Part) (bits : Protection) (none : strayBits p bits ≡ false) (a w
   -- ---- a write in the window, and any write
 
   add-fine : (e : Erase) → operationSound p bits (Window e) ≡ true → Fine p bits w (Window e) (addBlock p bits e a)
-  unfolding addBlock dataOf number
+  unfolding addBlock dataOf suspensionOf programIsSuspended number
   add-fine e s =
       let F = Fine p bits w (Window e) in
       by-test F (not (eqb (bankOf p a) (bankOfBlock p (e .hand)))) (λ _. stays refl)
-      (λ h. by-test F (protected bits (blockOf p a)) (λ _. stays refl) (λ free. starts (more free (eqb-true _ _ (not-false _ h))) (λ g h. lit< tt)))
+      (λ h. by-test F (protected bits (blockOf p a)) (λ _. stays refl) (λ free. starts (more free (eqb-true _ _ (not-false _ h))) (λ g h. lit< tt) refl))
     where
       more : protected bits (blockOf p a) ≡ false → bankOf p a ≡ bankOfBlock p (e .hand)
           → operationSound p bits (Window (erase (withOf (e .list) (blockOf p a)) (min (e .hand) (blockOf p a)) (windowTime p) (e .dq6) (e .dq2))) ≡ true
@@ -204,15 +207,16 @@ module _ (p : Part) (bits : Protection) (none : strayBits p bits ≡ false) (a w
           (added-low p e (blockOf p a) block-below (window-lowest p bits e s))
 
   window-fine : (e : Erase) → operationSound p bits (Window e) ≡ true → Fine p bits w (Window e) (inWindow p bits e a w)
-  unfolding inWindow dataOf insideData
+  unfolding inWindow dataOf insideData suspensionOf programIsSuspended
   window-fine e s =
       let F = Fine p bits w (Window e) in
       by-test F (is w 0x30) (λ _. add-fine e s)
-      (λ _. by-test F (is w 0xB0) (λ _. starts (resting-holds p bits _ (closed p bits e (window p bits e s))) (λ g h. lit< tt)) (λ _. drops))
+      (λ _. by-test F (is w 0xB0) (λ _. starts (resting-holds p bits _ (closed p bits e (window p bits e s))) (λ g h. lit< tt) refl) (λ _. drops))
 
-  busy-fine : (o x : Operation) → operationSound p bits x ≡ true → (w < 65536 → Short o → Short x) → Fine p bits w o (orBusy w x)
-  unfolding number
-  busy-fine o x s short = by-test (Fine p bits w o) (is w 0xB0) (λ _. starts s short) (λ _. stays refl)
+  erase-fine : (e : Erase) → operationSound p bits (Erasing e) ≡ true → Fine p bits w (Erasing e) (inErase e w)
+  unfolding dataOf insideData suspensionOf programIsSuspended number
+  erase-fine e s =
+      by-test (Fine p bits w (Erasing e)) (is w 0xB0) (λ _. starts (resting-holds p bits e (erasing p bits e s)) (λ g h. lit< tt) refl) (λ _. stays refl)
 
   inside-fine : (e : Erase) (i : Inside) (c : Command) → operationSound p bits (EraseSuspended (suspended e i)) ≡ true → commandSound p (EraseSuspended (suspended e i)) c ≡ true
       → Fine p bits w (EraseSuspended (suspended e i)) (inSuspendedErase i (entered p bits (OfErase e) c a w))
@@ -221,11 +225,11 @@ module _ (p : Part) (bits : Protection) (none : strayBits p bits ≡ false) (a w
   inside-fine e (Runs q) c s h = stays refl
 
   pub written-fine : (o : Operation) (c : Command) → operationSound p bits o ≡ true → commandSound p o c ≡ true → Fine p bits w o (written p bits o c a w)
-  unfolding standing written operationSound dataOf insideData number
+  unfolding standing written number
   written-fine Idle c s h = enter-fine Unsuspended c s h
-  written-fine (Programming q) c s h = busy-fine (Programming q) (ProgramSuspended q) s (λ g h. h)
+  written-fine (Programming q) c s h = stays refl
   written-fine (ProgramSuspended q) c s h = enter-fine (OfProgram q) c s h
   written-fine (Window e) c s h = window-fine e s
-  written-fine (Erasing e) c s h = busy-fine (Erasing e) (EraseSuspended (suspended e Nothing)) (resting-holds p bits e (erasing p bits e s)) (λ g h. lit< tt)
+  written-fine (Erasing e) c s h = erase-fine e s
   written-fine (EraseSuspended x) c s h = inside-fine (x .erase) (x .inside) c s h
   written-fine (ChipErasing e) c s h = stays refl

@@ -1,3 +1,11 @@
+pub mod KeptRegister
+pub mod KeptLists
+pub mod KeptWrite
+pub mod KeptRead
+pub mod KeptEvents
+pub mod KeptOperation
+pub mod Kept
+pub mod Awake
 pub mod Seen
 pub mod Writes
 pub mod Holds
@@ -6,10 +14,4 @@ pub mod Cuts
 pub mod Runs
 pub mod Begun
 pub mod Demand
-pub mod KeptRegister
-pub mod KeptLists
-pub mod KeptWrite
-pub mod KeptRead
-pub mod KeptEvents
-pub mod Kept
 pub mod Taken

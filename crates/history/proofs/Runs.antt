@@ -26,6 +26,8 @@ use Rattle.plain.specs.History.{Fact, Told, kind, unheard, cuts, wroteAs, waite
 use Rattle.plain.proofs.Tools.{by-test}
 use Rattle.plain.proofs.Facts.{sound-operation}
 use Rattle.plain.proofs.Ladder.{by-ladder}
+use Rattle.plain.proofs.SuspendedProgram.{Awake}
+use Rattle.history.proofs.Awake.{no-event-suspends-program}
 use Rattle.history.proofs.Seen.{seenOp, seen, polled-seen, rested-seen}
 use Rattle.history.proofs.Holds.{Holds}
 use Rattle.history.proofs.Writes.{write-told}
@@ -62,9 +64,9 @@ module _ (p : Part) (start : Lent) where
     unfolding tell
     read-step a w o e = record { facts = fs; tells = rw e; hold = λ h. h }
 
-    write-step : (a w : ℕ) → Stepped r l fs (write a w) (outcome (effected r (written p (r .bits) (r .operation) (r .command) a w)) l)
+    write-step : (a w : ℕ) → Awake (r .operation) → Stepped r l fs (write a w) (outcome (effected r (written p (r .bits) (r .operation) (r .command) a w)) l)
     unfolding tell
-    write-step a w = record { facts = fs; tells = write-told p fs a w r; hold = λ h. h }
+    write-step a w n = record { facts = fs; tells = write-told p fs a w r n; hold = λ h. h }
 
     wait-step : (n : ℕ) → Fit p r l → Stepped r l fs (wait n) (waited r (ticks p n (now r l)))
     unfolding tell waitedAs kind
@@ -72,13 +74,13 @@ module _ (p : Part) (start : Lent) where
         let w = waited-told p start (r .command) (r .bits) n (now r l) fs (sound-operation p r (f .sound) (r .operation) refl) (f .whole) in
         record { facts = w .facts; tells = w .tells; hold = w .hold }
 
-    cut-step : (debris : List ℕ) → Fit p r l → debrisNeeded p (r .operation) ≤ length debris → Stepped r l fs (cut debris) (cutTaken p r l debris)
+    cut-step : (debris : List ℕ) → Awake (r .operation) → Fit p r l → debrisNeeded p (r .operation) ≤ length debris → Stepped r l fs (cut debris) (cutTaken p r l debris)
     unfolding tell cutAs kind seenOp
-    cut-step debris f enough =
+    cut-step debris n f enough =
         record {
           facts = cuts p (seenOp p (r .operation)) debris fs;
           tells = refl;
-          hold = cut-holds p (r .bits) start debris (r .operation) (sound-operation p r (f .sound) (r .operation) refl) fs l (f .whole) enough;
+          hold = cut-holds p (r .bits) start debris (r .operation) n (sound-operation p r (f .sound) (r .operation) refl) fs l (f .whole) enough;
         }
 
     climbs : (e : Event) (fails : Bool) (own : Refusal) (taken : Outcome) → kind own ≡ unheard → (Fit p r l → fails ≡ false → Stepped r l fs e taken)
@@ -88,13 +90,13 @@ module _ (p : Part) (start : Lent) where
         by-ladder p r l fails own taken (Stepped r l fs e) (λ _. unheard-step r l fs e State refl) (unheard-step r l fs e Cells refl)
         (λ _. unheard-step r l fs e own k) f
 
-    pub stepped : (e : Event) → Stepped r l fs e (step p r l e)
+    pub stepped : (e : Event) → Awake (r .operation) → Stepped r l fs e (step p r l e)
     unfolding step readEvent writeEvent waitEvent cutEvent kind
-    stepped (read a) = climbs (read a) _ Address _ refl (λ f t. read-step a _ _ (look-seen p (r .bits) (r .command) (r .operation) l a))
-    stepped (write a w) = climbs (write a w) _ Address _ refl (λ f t. write-step a w)
-    stepped (wait n) = climbs (wait n) _ Clock _ refl (λ f t. wait-step n f)
-    stepped (cut debris) =
-        climbs (cut debris) _ Debris _ refl (λ f t. cut-step debris f (ltb-false (length debris) (debrisNeeded p (r .operation)) t))
+    stepped (read a) n = climbs (read a) _ Address _ refl (λ f t. read-step a _ _ (look-seen p (r .bits) (r .command) (r .operation) l a))
+    stepped (write a w) n = climbs (write a w) _ Address _ refl (λ f t. write-step a w n)
+    stepped (wait m) n = climbs (wait m) _ Clock _ refl (λ f t. wait-step m f)
+    stepped (cut debris) n =
+        climbs (cut debris) _ Debris _ refl (λ f t. cut-step debris n f (ltb-false (length debris) (debrisNeeded p (r .operation)) t))
 
   -- ---- a run
 
@@ -103,13 +105,14 @@ module _ (p : Part) (start : Lent) where
     pub tells : told p (seen p r fs) (run p r l es .turns) ≡ seen p (run p r l es .device) facts
     pub hold : Holds p start fs l → Holds p start facts (run p r l es .lent)
 
-  pub run-told : (r : Device) (l : Lent) (fs : List Fact) (es : List Event) → ToldRight r l fs es
+  -- a run that begins without a suspended program never holds one
+  pub run-told : (r : Device) (l : Lent) (fs : List Fact) (es : List Event) → Awake (r .operation) → ToldRight r l fs es
   unfolding run told
-  run-told r l fs [] = record { facts = fs; tells = refl; hold = λ h. h }
-  run-told r l fs (e ∷ es) =
-      let s = stepped r l fs e in
+  run-told r l fs [] n = record { facts = fs; tells = refl; hold = λ h. h }
+  run-told r l fs (e ∷ es) n =
+      let s = stepped r l fs e n in
       let o = step p r l e in
-      let t = run-told (o .answer .device) (o .lent) (s .facts) es in
+      let t = run-told (o .answer .device) (o .lent) (s .facts) es (no-event-suspends-program p r l e n) in
       record {
         facts = t .facts;
         tells = ap (λ (h : Told). told p h (run p (o .answer .device) (o .lent) es .turns)) (s .tells) ∙ t .tells;

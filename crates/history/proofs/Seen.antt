@@ -11,17 +11,18 @@ use Rattle.plain.specs.declared.Operation.{Operation}
 use Rattle.plain.specs.declared.Operation.the-variants.{Idle, Programming, ProgramSuspended, Window, Erasing, EraseSuspended, ChipErasing}
 use Rattle.plain.specs.declared.Device.{Device}
 use Rattle.plain.specs.Figures.{programTime, windowTime, eraseTime, chipTime}
-use Rattle.plain.specs.History.{Fact, Doing, nothing, programs, pauses, waits, erases, wipes, rests, programsIn, Told, telling}
+use Rattle.plain.specs.History.{Fact, Doing, nothing, programs, waits, erases, wipes, rests, programsIn, Told, telling}
 use Rattle.plain.specs.Status.{polled, insidePolled, rested}
 
 unfoldable pub seenInside : Part → Erase → Inside → Doing
 seenInside p e Nothing = rests (e .list) (e .hand) (eraseTime p - e .left)
 seenInside p e (Runs q) = programsIn (q .writes) (programTime p - q .left) (e .list) (e .hand) (eraseTime p - e .left)
 
+-- a run of a fresh device holds no suspended program (`no-run-suspends-program`): nothing is told of one
 unfoldable pub seenOp : Part → Operation → Doing
 seenOp p Idle = nothing
 seenOp p (Programming q) = programs (q .writes) (programTime p - q .left)
-seenOp p (ProgramSuspended q) = pauses (q .writes) (programTime p - q .left)
+seenOp p (ProgramSuspended q) = nothing
 seenOp p (Window e) = waits (e .list) (e .hand) (windowTime p - e .left)
 seenOp p (Erasing e) = erases (e .list) (e .hand) (eraseTime p - e .left)
 seenOp p (EraseSuspended s) = seenInside p (s .erase) (s .inside)

@@ -30,13 +30,15 @@ use Rattle.plain.specs.declared.Device.{Device}
 use Rattle.plain.specs.Choice.{if_then_else_}
 use Rattle.plain.specs.Cycles.{isAt, is, firstUnlock, secondUnlock, isDyb}
 use Rattle.plain.specs.Figures.{programTime, windowTime, eraseTime, chipTime}
+use Rattle.plain.specs.Operations.{suspensionOf}
 use Rattle.plain.specs.Programs.{writing, blockWritten}
 use Rattle.plain.specs.Record.{device, suspended}
 use Rattle.plain.specs.Commands.{programIsSuspended, isSuspended, resumes, begins, atGround, afterUnlock, afterUnlocked, afterA0, after80, after80Unlock, after80Unlocked, after48, after60, after68, after6060, afterReading, continued, entered, addBlock, inWindow, inSuspendedErase, written, effected}
 use Rattle.plain.specs.History.{Fact, Told, kind, dropped, unheard, enters, protects, beginsProgram, goesOn, hearsCycle, hears, wrote, gaveUp, turnedDown, wroteAs}
 use Rattle.plain.specs.History as told
-use Rattle.plain.proofs.Tools.{by-test, both-right}
+use Rattle.plain.proofs.Tools.{by-test, both-right, clash}
 use Rattle.plain.proofs.Register.{standing}
+use Rattle.plain.proofs.SuspendedProgram.{Awake}
 use Rattle.history.proofs.Seen.{seenInside, seenOp, seen, none-gone}
 
 module _ (p : Part) (fs : List Fact) (a w : ℕ) (m : Meter) (bits : Protection) where
@@ -107,11 +109,12 @@ module _ (p : Part) (fs : List Fact) (a w : ℕ) (m : Meter) (bits : Protection)
 
   -- ---- operations that go on and start
 
-  resumes-told : (s : Suspension) → firstUnlock a w ≡ false → is w 0x30 ≡ true → In s Ground (resumes s)
-  unfolding resumes hears goesOn seenOp seenInside standing
-  resumes-told Unsuspended f e = sequence Unsuspended Ground
-  resumes-told (OfProgram q) f e = starts (OfProgram q) Ground _ (rw (f, e))
-  resumes-told (OfErase x) f e = starts (OfErase x) Ground _ (rw (f, e))
+  -- of a suspended program nothing was told
+  resumes-told : (s : Suspension) → programIsSuspended s ≡ false → firstUnlock a w ≡ false → is w 0x30 ≡ true → In s Ground (resumes s)
+  unfolding programIsSuspended resumes hears goesOn seenOp seenInside standing
+  resumes-told Unsuspended n f e = sequence Unsuspended Ground
+  resumes-told (OfProgram q) n f e = clash refl n
+  resumes-told (OfErase x) n f e = starts (OfErase x) Ground _ (rw (f, e))
 
   begins-told : (s : Suspension) → In s (Entering ProgramData) (begins p s (writing a w))
   unfolding begins hears hearsCycle beginsProgram kind seenOp seenInside standing
@@ -123,11 +126,11 @@ module _ (p : Part) (fs : List Fact) (a w : ℕ) (m : Meter) (bits : Protection)
 
   -- ---- the register's states
 
-  at-ground : (s : Suspension) → In s Ground (atGround s a w)
+  at-ground : (s : Suspension) → programIsSuspended s ≡ false → In s Ground (atGround s a w)
   unfolding atGround hears
-  at-ground s =
+  at-ground s n =
       by-test (In s Ground) (firstUnlock a w) (λ e. goes s _ _ (rw e))
-      (λ e. or-ground s Ground _ (λ f. rw (e, low 0xF0 f)) (λ f. by-test (In s Ground) (is w 0x30) (λ g. resumes-told s e g) (λ g. sequence s Ground)))
+      (λ e. or-ground s Ground _ (λ f. rw (e, low 0xF0 f)) (λ f. by-test (In s Ground) (is w 0x30) (λ g. resumes-told s n e g) (λ g. sequence s Ground)))
 
   second : (s : Suspension) (c d : Command) → (secondUnlock a w ≡ true → heard s c ≡ enters (before c (standing s)) d) → (is w 0xF0 ≡ true → heard s c ≡ enters (before c (standing s)) Ground)
       → In s c (if secondUnlock a w then Goes d else if is w 0xF0 then Goes Ground else Falls Sequence)
@@ -190,11 +193,11 @@ module _ (p : Part) (fs : List Fact) (a w : ℕ) (m : Meter) (bits : Protection)
   cycle-told s PpbClearing =
       or-ground s _ _ (λ e. rw e) (λ e. by-test (In s (Entering PpbClearing)) (is w 0x40) (λ f. locks s _ _ (rw e)) (λ f. sequence s _))
 
-  enters-told : (s : Suspension) (c : Command) → In s c (entered p bits s c a w)
+  enters-told : (s : Suspension) (c : Command) → programIsSuspended s ≡ false → In s c (entered p bits s c a w)
   unfolding entered afterReading hears
-  enters-told s Ground = at-ground s
-  enters-told s (Entering c) = cycle-told s c
-  enters-told s (Reads r) = or-ground s (Reads r) _ (λ e. refl) (λ e. sequence s (Reads r))
+  enters-told s Ground n = at-ground s n
+  enters-told s (Entering c) n = cycle-told s c
+  enters-told s (Reads r) n = or-ground s (Reads r) _ (λ e. refl) (λ e. sequence s (Reads r))
 
   -- ---- while something runs
 
@@ -219,22 +222,22 @@ module _ (p : Part) (fs : List Fact) (a w : ℕ) (m : Meter) (bits : Protection)
       (λ f. by-test (For c (Window e)) (is w 0xB0) (λ g. runs-on _ (rw (f, none-gone (eraseTime p)))) (λ g. window-drops))
 
   in-suspended : (c : Command) (e : Erase) (i : Inside) → For c (EraseSuspended (suspended e i)) (inSuspendedErase i (entered p bits (OfErase e) c a w))
-  unfolding inSuspendedErase kind standing
-  in-suspended c e Nothing = enters-told (OfErase e) c
+  unfolding inSuspendedErase kind standing programIsSuspended
+  in-suspended c e Nothing = enters-told (OfErase e) c refl
   in-suspended c e (Runs q) = stays Busy refl
 
-  written-told : (c : Command) (o : Operation) → For c o (written p bits o c a w)
-  unfolding written wrote kind seenOp seenInside standing
-  written-told c Idle = enters-told Unsuspended c
-  written-told c (Programming q) = by-test (For c (Programming q)) (is w 0xB0) (λ e. runs-on _ refl) (λ e. stays Busy refl)
-  written-told c (ProgramSuspended q) = enters-told (OfProgram q) c
-  written-told c (Window e) = in-window c e
-  written-told c (Erasing x) = by-test (For c (Erasing x)) (is w 0xB0) (λ e. runs-on _ refl) (λ e. stays Busy refl)
-  written-told c (EraseSuspended s) = in-suspended c (s .erase) (s .inside)
-  written-told c (ChipErasing e) = stays Busy refl
+  written-told : (c : Command) (o : Operation) → Awake o → For c o (written p bits o c a w)
+  unfolding written wrote kind seenOp seenInside standing suspensionOf programIsSuspended
+  written-told c Idle n = enters-told Unsuspended c refl
+  written-told c (Programming q) n = stays Busy refl
+  written-told c (ProgramSuspended q) n = clash refl n
+  written-told c (Window e) n = in-window c e
+  written-told c (Erasing x) n = by-test (For c (Erasing x)) (is w 0xB0) (λ e. runs-on _ refl) (λ e. stays Busy refl)
+  written-told c (EraseSuspended s) n = in-suspended c (s .erase) (s .inside)
+  written-told c (ChipErasing e) n = stays Busy refl
 
--- a write on any record
-pub write-told : (p : Part) (fs : List Fact) (a w : ℕ) (r : Device)
+-- a write on any record that holds no suspended program
+pub write-told : (p : Part) (fs : List Fact) (a w : ℕ) (r : Device) → Awake (r .operation)
     → wroteAs p (seen p r fs) (kind (effected r (written p (r .bits) (r .operation) (r .command) a w) .refusal)) a w
     ≡ seen p (effected r (written p (r .bits) (r .operation) (r .command) a w) .device) fs
-write-told p fs a w r = written-told p fs a w (r .meter) (r .bits) (r .command) (r .operation) .tells
+write-told p fs a w r n = written-told p fs a w (r .meter) (r .bits) (r .command) (r .operation) n .tells

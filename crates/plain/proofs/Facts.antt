@@ -1,6 +1,6 @@
 -- What a sound record is known to be: the laws that callers use.
 use Prim.Native.Nat.{ℕ, _*_, _<_, _≤_}
-use mathlib.Core.Path.{_≡_, refl}
+use mathlib.Core.Path.{_≡_, refl, sym, _∙_}
 use mathlib.Core.Bool.{Bool, true, false, _&&_, not}
 use native.Mathlib.Omega.{arith}
 use lib.Dec.{ltb, leb, eqb}
@@ -24,6 +24,7 @@ use Rattle.plain.specs.Operations.{runningOf, suspensionOf}
 use Rattle.plain.specs.Programs.{liesIn, blockWritten}
 use Rattle.plain.specs.Record.{fresh}
 use Rattle.plain.specs.Sound.{meterSound, timeSound, programSound, erasable, mayErase, mayChipErase, listSound, chipListSound, lowest, insideSound, operationSound, isStill, stillCommand, commandSound, sound}
+use Rattle.plain.specs.SuspendedProgram.{SuspendedStaysSound}
 use Rattle.plain.proofs.Tools.{both-left, both-right, clash}
 use Rattle.plain.proofs.Lists.{only-at}
 
@@ -92,9 +93,13 @@ pub programming : (p : Part) (bits : Protection) (q : Program) → operationSoun
 unfolding operationSound
 programming = program-facts
 
-pub program-suspended : (p : Part) (bits : Protection) (q : Program) → operationSound p bits (ProgramSuspended q) ≡ true → ProgramFacts p bits q
+-- one that is suspended is as sound as if it ran
+pub suspended-sound : (p : Part) → SuspendedStaysSound p
 unfolding operationSound
-program-suspended = program-facts
+suspended-sound p bits q = refl
+
+pub program-suspended : (p : Part) (bits : Protection) (q : Program) → operationSound p bits (ProgramSuspended q) ≡ true → ProgramFacts p bits q
+program-suspended p bits q s = programming p bits q (sym (suspended-sound p bits q) ∙ s)
 
 -- ---- an erase
 

@@ -13,14 +13,13 @@ use Rattle.plain.specs.declared.Refusal.{Refusal}
 use Rattle.plain.specs.declared.Command.{Command}
 use Rattle.plain.specs.Events.{Event, read, write, wait, cut, Turn}
 use Rattle.plain.specs.Figures.{programTime, windowTime, eraseTime, chipTime}
-use Rattle.plain.specs.History.{Fact, Doing, nothing, programs, pauses, waits, erases, wipes, rests, programsIn, Told, telling, Kind, taken, lost, dropped, unheard, kind, draws, goes, comes, microsecond, time, wroteAs, waitedAs, cutAs, tell, told}
+use Rattle.plain.specs.History.{Fact, Doing, nothing, programs, waits, erases, wipes, rests, programsIn, Told, telling, Kind, taken, lost, dropped, unheard, kind, draws, goes, comes, microsecond, time, wroteAs, waitedAs, cutAs, tell, told}
 use Rattle.plain.proofs.Leaps.{Due, never, due}
 
 -- the time to go until something comes to pass
 unfoldable pub toGo : Part → Doing → Due
 toGo p nothing = never
 toGo p (programs d g) = due (programTime p - g)
-toGo p (pauses d g) = never
 toGo p (waits l b g) = due (windowTime p - g)
 toGo p (erases l b g) = due (eraseTime p - g)
 toGo p (wipes l b g) = due (chipTime p - g)
@@ -31,7 +30,6 @@ toGo p (programsIn d pg l b g) = due (programTime p - pg)
 unfoldable pub further : Doing → ℕ → Doing
 further nothing k = nothing
 further (programs d g) k = programs d (g + k)
-further (pauses d g) k = pauses d g
 further (waits l b g) k = waits l b (g + k)
 further (erases l b g) k = erases l b (g + k)
 further (wipes l b g) k = wipes l b (g + k)
@@ -107,7 +105,6 @@ module _ (p : Part) (c : Command) (y q : Blocks) where
   quiet-time (programs d g) l x k h fs t e =
       let i : programTime p - g ≡ l = cc in
       counted (programs d) (programTime p) _ (record { on = λ n m. rw (not-yet n (programTime p) m); quiet = λ n m f. rw (not-yet n (programTime p) m); rates = λ n. refl }) k g (omega arith) fs t e
-  quiet-time (pauses d g) l x k h fs t e = let z : _≡_ {A = ℕ} 0 1 = cc in absurd (omega arith)
   quiet-time (waits s b g) l x k h fs t e =
       let i : windowTime p - g ≡ l = cc in
       counted (waits s b) (windowTime p) _ (record { on = λ n m. rw (not-yet n (windowTime p) m); quiet = λ n m f. refl; rates = λ n. refl }) k g (omega arith) fs t e
@@ -126,7 +123,6 @@ module _ (p : Part) (c : Command) (y q : Blocks) where
   unfolding toGo later further goes comes
   still-time nothing x k fs t e = stayed nothing refl (λ f. refl) k fs t e
   still-time (programs d g) x k fs t e = let z : _≡_ {A = ℕ} 0 1 = cc in absurd (omega arith)
-  still-time (pauses d g) x k fs t e = stayed (pauses d g) refl (λ f. refl) k fs t e
   still-time (waits s b g) x k fs t e = let z : _≡_ {A = ℕ} 0 1 = cc in absurd (omega arith)
   still-time (erases s b g) x k fs t e = let z : _≡_ {A = ℕ} 0 1 = cc in absurd (omega arith)
   still-time (wipes s b g) x k fs t e = let z : _≡_ {A = ℕ} 0 1 = cc in absurd (omega arith)

@@ -10,11 +10,13 @@ pub mod Facts
 pub mod FactsHold
 pub mod Register
 pub mod SoundTime
+pub mod Lasting
 pub mod Data
 pub mod Ends
 pub mod Leaps
 pub mod Quick
 pub mod EventLaws
+pub mod SuspendedProgram
 pub mod HistoryLeaps
 pub mod Worked
 pub mod CutCells

@@ -1,4 +1,5 @@
--- The starred rows of the bench table, together, and the worked histories: what the plain machine makes of each is what is stated.
+-- The starred rows of the bench table, together, the stored suspended programs and the worked histories: what the plain machine makes
+-- of each is what is stated.
 use mathlib.Core.Path.{_≡_, refl, ap, _∙_}
 use mathlib.Core.List.{List, [], _∷_, map}
 use Rattle.blocks.specs.Blocks.{has, pack, setOf, some, seek}
@@ -19,9 +20,10 @@ use Rattle.plain.specs.Time.{current, insideTick, operationTick, lentTic
 use Rattle.plain.specs.Status.{polls, insidePolled, polled, status, givenAt, givenWord, readingOn, readingWord, rests, restWord, rested, look}
 use Rattle.plain.specs.Cut.{begunBlock, begunInside, begunProgram, wordOf, blockDebris, programDebris, debrisNeeded, blockCut, programCut, cutLent}
 use Rattle.plain.specs.Machine.{entry, climbed, ladder, readEvent, writeEvent, cutEvent}
-use Rattle.plain.specs.Bench.{Finding, Row, lookups, runs, stated, after, found, bench}
+use Rattle.plain.specs.Bench.{Finding, Row, lookups, runs, stated, after, blank, found, bench}
+use Rattle.plain.specs.SuspendedProgram.{Stored, storedFound, storeds}
 use Rattle.plain.specs.History.{Told, kind, draws, goes, comes, microsecond, beginsProgram, goesOn, hearsCycle, hears, wrote, gaveUp, turnedDown, wroteAs, cuts, cutAs, untold}
-use Rattle.plain.specs.Worked.{Tale, Work, tells, worked, blank, tales}
+use Rattle.plain.specs.Worked.{Tale, Work, tells, worked, tales}
 use Rattle.plain.proofs.Leaps.{insideDue, dueOf, insideLess, less, drifted, leap}
 use Rattle.plain.proofs.Quick.{quickWait, quickStep, quickRun, quick-run}
 use Rattle.plain.proofs.HistoryLeaps.{toGo, further, later, quickTime, quickWaited, quickTell, quickTold, quick-told}
@@ -40,15 +42,25 @@ quick-rows : (rs : List Row) → map found rs ≡ map quickFound rs
 quick-rows [] = refl
 quick-rows (r ∷ rs) = rw (quick-found r, quick-rows rs)
 
+abbrev quickStored : Stored → Finding
+quickStored s = after (quickRun Small (s .from) (lent blank) (s .events)) (100 ∷ [])
+
+quick-stored : (s : Stored) → storedFound s ≡ quickStored s
+quick-stored s = ap (λ x. after x (100 ∷ [])) (quick-run Small (s .from) (lent blank) (s .events))
+
+quick-storeds : (ss : List Stored) → map storedFound ss ≡ map quickStored ss
+quick-storeds [] = refl
+quick-storeds (s ∷ ss) = rw (quick-stored s, quick-storeds ss)
+
 abbrev quickWorked : Work → Tale
 quickWorked w =
-    let r = quickRun Small fresh blank (w .events) in
+    let r = quickRun Small fresh (lent blank) (w .events) in
     tells r (quickTold Small untold (r .turns)) (w .addresses)
 
 quick-worked : (w : Work) → worked w ≡ quickWorked w
 quick-worked w =
-    rw (quick-run Small fresh blank (w .events))
-    (ap (λ (h : Told). tells (quickRun Small fresh blank (w .events)) h (w .addresses)) (quick-told Small untold (quickRun Small fresh blank (w .events) .turns)))
+    rw (quick-run Small fresh (lent blank) (w .events))
+    (ap (λ (h : Told). tells (quickRun Small fresh (lent blank) (w .events)) h (w .addresses)) (quick-told Small untold (quickRun Small fresh (lent blank) (w .events) .turns)))
 
 quick-tales : (ws : List Work) → map worked ws ≡ map quickWorked ws
 quick-tales [] = refl
@@ -56,7 +68,12 @@ quick-tales (w ∷ ws) = rw (quick-worked w, quick-tales ws)
 
 -- ---- computed
 
-computed : (map quickFound bench ≡ map stated bench) × (map quickWorked tales ≡ map (λ (w : Work). w .stated) tales)
+record Computed : Type 0 where
+  rows : map quickFound bench ≡ map stated bench
+  resting : map quickStored storeds ≡ map (λ (s : Stored). s .stated) storeds
+  told : map quickWorked tales ≡ map (λ (w : Work). w .stated) tales
+
+computed : Computed
 unfolding has pack setOf some seek programmed erased littered cutShort
     blockCount bankCount unitOf sizeIn firstIn blockIn bankOf bankIn bankOfBlock refusalAsked blockAsked protectedBy unprotected
     number programTime windowTime eraseTime chipTime runningCurrent standbyCurrent clockLimit
@@ -73,10 +90,13 @@ unfolding has pack setOf some seek programmed erased littered cutShort
     insideDue dueOf insideLess less drifted leap quickWait quickStep quickRun
     kind draws goes comes microsecond beginsProgram goesOn hearsCycle hears wrote gaveUp turnedDown wroteAs cuts cutAs
     toGo further later quickTime quickWaited quickTell quickTold
-computed = (refl, refl)
+computed = record { rows = refl; resting = refl; told = refl }
 
 pub bench-holds : map found bench ≡ map stated bench
-bench-holds = quick-rows bench ∙ computed .0
+bench-holds = quick-rows bench ∙ computed .rows
+
+pub storeds-hold : map storedFound storeds ≡ map (λ (s : Stored). s .stated) storeds
+storeds-hold = quick-storeds storeds ∙ computed .resting
 
 pub tales-hold : map worked tales ≡ map (λ (w : Work). w .stated) tales
-tales-hold = quick-tales tales ∙ computed .1
+tales-hold = quick-tales tales ∙ computed .told

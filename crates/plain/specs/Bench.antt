@@ -56,13 +56,13 @@ found (runs cells events addresses f) = after (run Small fresh (lent cells) even
 abbrev pub blank : List ℕ
 blank = replicate 16384 0xFFFF
 
-abbrev unlock : List Event
+abbrev pub unlock : List Event
 unlock = write 0x555 0xAA ∷ write 0x2AA 0x55 ∷ []
 
-abbrev programOf : ℕ → ℕ → List Event
+abbrev pub programOf : ℕ → ℕ → List Event
 programOf a w = unlock ++ (write 0x555 0xA0 ∷ write a w ∷ [])
 
-abbrev eraseOf : ℕ → List Event
+abbrev pub eraseOf : ℕ → List Event
 eraseOf a = unlock ++ (write 0x555 0x80 ∷ unlock ++ (write a 0x30 ∷ []))
 
 abbrev dybOf : ℕ → ℕ → List Event

@@ -44,7 +44,7 @@ programIsSuspended Unsuspended = false
 programIsSuspended (OfProgram q) = true
 programIsSuspended (OfErase e) = false
 
--- "In suspension 30H at any address resumes from ground"
+-- "In suspension 30H at any address resumes from ground": a stored program, too
 unfoldable pub resumes : Suspension → Effect
 resumes Unsuspended = Falls Sequence
 resumes (OfProgram q) = Starts (Programming q)
@@ -194,21 +194,22 @@ inWindow p bits e a w =
     else if is w 0xB0 then Starts (EraseSuspended (suspended (eraseLeft e (eraseTime p)) Nothing))
     else Drops
 
--- "B0H at any address suspends a running block erase or a running program at once"; anything else is BUSY
-abbrev pub orBusy : (w : ℕ) → Operation → Effect
-orBusy w o = if is w 0xB0 then Starts o else Stays Busy
+-- past the window: "B0H at any address suspends a running block erase .. at once"; any other write is BUSY
+abbrev pub inErase : Erase → (w : ℕ) → Effect
+inErase e w = if is w 0xB0 then Starts (EraseSuspended (suspended e Nothing)) else Stays Busy
 
 -- "During a chip erase, or a program inside a suspended erase, it is BUSY."
 unfoldable pub inSuspendedErase : Inside → Effect → Effect
 inSuspendedErase Nothing effect = effect
 inSuspendedErase (Runs q) effect = Stays Busy
 
+-- document 02, request 9: "B0H during any program becomes BUSY."
 unfoldable pub written : Part → Protection → Operation → Command → (a w : ℕ) → Effect
 written p bits Idle c a w = entered p bits Unsuspended c a w
-written p bits (Programming q) c a w = orBusy w (ProgramSuspended q)
+written p bits (Programming q) c a w = Stays Busy
 written p bits (ProgramSuspended q) c a w = entered p bits (OfProgram q) c a w
 written p bits (Window e) c a w = inWindow p bits e a w
-written p bits (Erasing e) c a w = orBusy w (EraseSuspended (suspended e Nothing))
+written p bits (Erasing e) c a w = inErase e w
 written p bits (EraseSuspended s) c a w = inSuspendedErase (s .inside) (entered p bits (OfErase (s .erase)) c a w)
 written p bits (ChipErasing e) c a w = Stays Busy
 

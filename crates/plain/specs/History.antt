@@ -36,7 +36,6 @@ pub data Fact : Type 0 where
 pub data Doing : Type 0 where
   nothing : Doing
   programs : Written → (gone : ℕ) → Doing
-  pauses : Written → (gone : ℕ) → Doing
   waits : (list : Blocks) → (block gone : ℕ) → Doing
   erases : (list : Blocks) → (block gone : ℕ) → Doing
   wipes : (list : Blocks) → (block gone : ℕ) → Doing
@@ -81,7 +80,6 @@ kind Locked = dropped
 unfoldable pub draws : Part → Doing → ℕ
 draws p nothing = standbyCurrent p
 draws p (programs d g) = runningCurrent p
-draws p (pauses d g) = standbyCurrent p
 draws p (waits l b g) = standbyCurrent p
 draws p (erases l b g) = runningCurrent p
 draws p (wipes l b g) = runningCurrent p
@@ -96,7 +94,6 @@ turnsTo p goes l b = if ltb (firstFrom l (suc b)) (blockCount p) then goes l (fi
 unfoldable pub goes : Part → Doing → Doing
 goes p nothing = nothing
 goes p (programs d g) = if eqb (suc g) (programTime p) then nothing else programs d (suc g)
-goes p (pauses d g) = pauses d g
 goes p (waits l b g) = if eqb (suc g) (windowTime p) then erases l b 0 else waits l b (suc g)
 goes p (erases l b g) = if eqb (suc g) (eraseTime p) then turnsTo p erases l b else erases l b (suc g)
 goes p (wipes l b g) = if eqb (suc g) (chipTime p) then turnsTo p wipes l b else wipes l b (suc g)
@@ -106,7 +103,6 @@ goes p (programsIn d pg l b g) = if eqb (suc pg) (programTime p) then rests l b 
 unfoldable pub comes : Part → Doing → List Fact → List Fact
 comes p nothing fs = fs
 comes p (programs d g) fs = if eqb (suc g) (programTime p) then programDone d ∷ fs else fs
-comes p (pauses d g) fs = fs
 comes p (waits l b g) fs = fs
 comes p (erases l b g) fs = if eqb (suc g) (eraseTime p) then eraseDone b ∷ fs else fs
 comes p (wipes l b g) fs = if eqb (suc g) (chipTime p) then eraseDone b ∷ fs else fs
@@ -135,7 +131,6 @@ protects h y q = telling Ground (h .doing) y q (h .facts) (h .clock) (h .charge)
 unfoldable pub beginsProgram : Doing → Written → Doing
 beginsProgram nothing n = programs n 0
 beginsProgram (programs d g) n = programs n 0
-beginsProgram (pauses d g) n = programs n 0
 beginsProgram (waits l b g) n = programs n 0
 beginsProgram (erases l b g) n = programs n 0
 beginsProgram (wipes l b g) n = programs n 0
@@ -145,7 +140,6 @@ beginsProgram (programsIn d pg l b g) n = programsIn n 0 l b g
 unfoldable pub goesOn : Doing → Doing
 goesOn nothing = nothing
 goesOn (programs d g) = programs d g
-goesOn (pauses d g) = programs d g
 goesOn (waits l b g) = waits l b g
 goesOn (erases l b g) = erases l b g
 goesOn (wipes l b g) = wipes l b g
@@ -192,11 +186,10 @@ hears p h Ground a w =
 hears p h (Entering c) a w = hearsCycle p h c a w
 hears p h (Reads r) a w = enters h Ground
 
--- a write taken while something runs suspends it, or adds a block in the window
+-- a write taken while an erase runs suspends it, or adds a block in the window
 unfoldable pub wrote : Part → Told → Doing → (a w : ℕ) → Told
 wrote p h nothing a w = hears p h (h .command) a w
-wrote p h (programs d g) a w = begins h (pauses d g)
-wrote p h (pauses d g) a w = hears p h (h .command) a w
+wrote p h (programs d g) a w = h
 wrote p h (waits l b g) a w =
     if is w 0x30 then begins h (waits (withOf l (blockOf p a)) (min b (blockOf p a)) 0) else begins h (rests l b 0)
 wrote p h (erases l b g) a w = begins h (rests l b g)
@@ -210,7 +203,6 @@ wrote p h (programsIn d pg l b g) a w = h
 unfoldable pub gaveUp : Told → Doing → Told
 gaveUp h nothing = enters h Ground
 gaveUp h (programs d g) = enters h Ground
-gaveUp h (pauses d g) = enters h Ground
 gaveUp h (waits l b g) = begins h nothing
 gaveUp h (erases l b g) = enters h Ground
 gaveUp h (wipes l b g) = enters h Ground
@@ -221,7 +213,6 @@ gaveUp h (programsIn d pg l b g) = enters h Ground
 unfoldable pub turnedDown : Told → Doing → Told
 turnedDown h nothing = enters h Ground
 turnedDown h (programs d g) = enters h Ground
-turnedDown h (pauses d g) = enters h Ground
 turnedDown h (waits l b g) = h
 turnedDown h (erases l b g) = enters h Ground
 turnedDown h (wipes l b g) = enters h Ground
@@ -252,7 +243,6 @@ programCuts g d debris fs = if ltb 0 g then programCut d debris ∷ fs else fs
 unfoldable pub cuts : Part → Doing → (debris : List ℕ) → List Fact → List Fact
 cuts p nothing debris fs = fs
 cuts p (programs d g) debris fs = programCuts g d debris fs
-cuts p (pauses d g) debris fs = programCuts g d debris fs
 cuts p (waits l b g) debris fs = fs
 cuts p (erases l b g) debris fs = eraseCuts g b debris fs
 cuts p (wipes l b g) debris fs = eraseCuts g b debris fs

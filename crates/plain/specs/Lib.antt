@@ -15,6 +15,7 @@ pub mod Cut
 pub mod Machine
 pub mod Ends
 pub mod Bench
+pub mod SuspendedProgram
 pub mod History
 pub mod Promises
 pub mod Worked

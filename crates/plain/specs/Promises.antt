@@ -14,7 +14,7 @@ use Rattle.plain.specs.declared.Refusal.the-variants.{Done}
 use Rattle.plain.specs.declared.Written.{Written}
 use Rattle.plain.specs.declared.Device.{Device}
 use Rattle.plain.specs.Events.{Event, cut}
-use Rattle.plain.specs.History.{Doing, programs, pauses, erases, wipes, rests, programsIn, Told, history, holds}
+use Rattle.plain.specs.History.{Doing, programs, erases, wipes, rests, programsIn, Told, history, holds}
 use Rattle.plain.specs.Machine.{Outcome, step, run}
 use Rattle.plain.specs.Lent.{Lent, cellAt}
 use Rattle.plain.specs.Programs.{writes, datum}
@@ -25,7 +25,6 @@ use Rattle.plain.specs.Record.{fresh}
 -- a program of these words had begun and was not finished
 pub data ProgramBegun : Doing → Written → Type 0 where
   running : {d : Written} {g : ℕ} → 0 < g → ProgramBegun (programs d g) d
-  paused : {d : Written} {g : ℕ} → 0 < g → ProgramBegun (pauses d g) d
   inside : {d : Written} {g b eg : ℕ} {l : Blocks} → 0 < g → ProgramBegun (programsIn d g l b eg) d
 
 -- an erase of the block had begun and was not finished

@@ -3,9 +3,10 @@ use Prim.Native.Nat.{ℕ}
 use mathlib.Core.List.{List, [], _∷_, _++_, map}
 use lib.ListN.{replicate}
 use Rattle.geometry.specs.declared.Part.the-variants.{Small}
+use Rattle.plain.specs.Bench.{blank, unlock, programOf, eraseOf}
 use Rattle.plain.specs.Refusals.{number}
 use Rattle.plain.specs.Events.{Event, read, write, wait, cut, Turn}
-use Rattle.plain.specs.Lent.{Lent, lent, cellAt}
+use Rattle.plain.specs.Lent.{lent, cellAt}
 use Rattle.plain.specs.Programs.{writing}
 use Rattle.plain.specs.Record.{fresh}
 use Rattle.plain.specs.Machine.{Ran, run}
@@ -31,26 +32,14 @@ pub record Work : Type 0 where
 abbrev pub work : List Event → List ℕ → Tale → Work
 work es at t = record { events = es; addresses = at; stated = t }
 
-abbrev pub blank : Lent
-blank = lent (replicate 16384 0xFFFF)
-
 -- facts, clock and charge are the history's; refusals and words the run's
 abbrev pub tells : Ran → Told → List ℕ → Tale
 tells r h at = tale (map (λ (t : Turn). number (t .refusal)) (r .turns)) (h .facts) (map (cellAt (r .lent)) at) (h .clock) (h .charge)
 
 abbrev pub worked : Work → Tale
-worked w = tells (run Small fresh blank (w .events)) (history Small (run Small fresh blank (w .events) .turns)) (w .addresses)
+worked w = tells (run Small fresh (lent blank) (w .events)) (history Small (run Small fresh (lent blank) (w .events) .turns)) (w .addresses)
 
--- ---- command sequences
-
-abbrev unlock : List Event
-unlock = write 0x555 0xAA ∷ write 0x2AA 0x55 ∷ []
-
-abbrev programOf : ℕ → ℕ → List Event
-programOf a w = unlock ++ (write 0x555 0xA0 ∷ write a w ∷ [])
-
-abbrev eraseOf : ℕ → List Event
-eraseOf a = unlock ++ (write 0x555 0x80 ∷ unlock ++ (write a 0x30 ∷ []))
+-- ---- commands that are taken, of four writes and of six
 
 abbrev four : List ℕ
 four = 0 ∷ 0 ∷ 0 ∷ 0 ∷ []
@@ -62,11 +51,11 @@ six = 0 ∷ 0 ∷ 0 ∷ 0 ∷ 0 ∷ 0 ∷ []
 abbrev finished : Work
 finished = work (programOf 100 0x1234 ++ (wait 6 ∷ [])) (100 ∷ []) (tale (four ++ (0 ∷ [])) (programDone (writing 100 0x1234) ∷ []) (0x1234 ∷ []) 6 102000)
 
--- a write in the middle that is BUSY changes nothing
+-- writes in the middle are BUSY and change nothing, B0H too
 abbrev busy : Work
 busy =
-    work (programOf 100 0x1234 ++ (wait 3 ∷ write 0 0xF0 ∷ wait 3 ∷ [])) (100 ∷ [])
-    (tale (four ++ (0 ∷ 6 ∷ 0 ∷ [])) (programDone (writing 100 0x1234) ∷ []) (0x1234 ∷ []) 6 102000)
+    work (programOf 100 0x1234 ++ (wait 3 ∷ write 0 0xF0 ∷ write 0 0xB0 ∷ wait 3 ∷ [])) (100 ∷ [])
+    (tale (four ++ (0 ∷ 6 ∷ 6 ∷ 0 ∷ [])) (programDone (writing 100 0x1234) ∷ []) (0x1234 ∷ []) 6 102000)
 
 -- a suspended and resumed erase counts only its progress: 100,000 and 600,000 µs
 abbrev resumed : Work

@@ -54,7 +54,8 @@ pub struct SuspendedErase {
     pub inside: Inside,
 }
 
-// What runs or is suspended. In the window `left` is the window's time: the block in hand has its full time yet.
+// What runs or is suspended. In the window `left` is the window's time: the block in hand has its full time yet. A suspended
+// program is held by stored records alone: nothing suspends one any more.
 pub enum Operation {
     Idle,
     Programming(Program),

@@ -2,7 +2,7 @@
 // number").
 ghost use mathlib.Core.Path.{_≡_};
 ghost use Rattle.plain.specs.Record.{device, answer};
-ghost use Rattle.plain.specs.Commands.{orBusy, written, effected};
+ghost use Rattle.plain.specs.Commands.{inErase, written, effected};
 use decoder::entered;
 use geometry::Part;
 use meter::Meter;
@@ -10,6 +10,7 @@ use plain::Answer;
 use plain::Command;
 use plain::Device;
 use plain::Effect;
+use plain::Erase;
 use plain::Inside;
 use plain::Operation;
 use plain::Refusal;
@@ -31,19 +32,13 @@ pub fn written(
 {
     match operation {
         Operation::Idle => entered(part, bits, Suspension::Unsuspended, command, address, word),
-        Operation::Programming(program) => or_busy(word, Operation::ProgramSuspended(program)),
+        Operation::Programming(_) => Effect::Stays(Refusal::Busy),
         Operation::ProgramSuspended(program) => {
             let suspension = Suspension::OfProgram(program);
             entered(part, bits, suspension, command, address, word)
         }
         Operation::Window(erase) => in_window(part, bits, erase, address, word),
-        Operation::Erasing(erase) => or_busy(
-            word,
-            Operation::EraseSuspended(SuspendedErase {
-                erase: erase,
-                inside: Inside::Nothing,
-            }),
-        ),
+        Operation::Erasing(erase) => in_erase(erase, word),
         Operation::EraseSuspended(suspended) => {
             let erase = suspended.erase;
             let suspension = Suspension::OfErase(erase);
@@ -57,12 +52,15 @@ pub fn written(
     }
 }
 
-// "B0H at any address suspends a running block erase or a running program at once"; any other write is BUSY.
-fn or_busy(word: u16, stopped: Operation) -> Effect
-    ensures { λ r. ⌜ r ≡ orBusy word stopped ⌝ }
+// "B0H at any address suspends a running block erase .. at once"; any other write is BUSY.
+fn in_erase(erase: Erase, word: u16) -> Effect
+    ensures { λ r. ⌜ r ≡ inErase erase word ⌝ }
 {
     if word % 256 == 0xb0 {
-        return Effect::Starts(stopped);
+        return Effect::Starts(Operation::EraseSuspended(SuspendedErase {
+            erase: erase,
+            inside: Inside::Nothing,
+        }));
     }
     Effect::Stays(Refusal::Busy)
 }

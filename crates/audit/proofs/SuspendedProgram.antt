@@ -1,0 +1,93 @@
+-- No event suspends a program: of the public functions, and through C.
+use Prim.Native.Nat.{ℕ}
+use mathlib.Core.Path.{_≡_, refl, _∙_}
+use mathlib.Core.Bool.{Bool, false}
+use mathlib.Core.List.{List, [], _∷_}
+use lib.Dec.{eqb}
+use borrow.Author.Tests.{eq-eqb}
+use Rattle.geometry.specs.declared.Part.{Part}
+use Rattle.plain.specs.declared.Erase.{Erase}
+use Rattle.plain.specs.declared.Inside.{Inside}
+use Rattle.plain.specs.declared.Inside.the-variants.{Nothing, Runs}
+use Rattle.plain.specs.declared.Operation.{Operation}
+use Rattle.plain.specs.declared.Operation.the-variants.{Idle, Programming, ProgramSuspended, Window, Erasing, EraseSuspended, ChipErasing}
+use Rattle.plain.specs.declared.Device.{Device}
+use Rattle.plain.specs.Commands.{programIsSuspended}
+use Rattle.plain.specs.Events.{Event}
+use Rattle.plain.specs.Lent.{lent}
+use Rattle.plain.specs.Machine.{step}
+use Rattle.plain.specs.Operations.{suspensionOf}
+use Rattle.plain.specs.Record.{fresh}
+use Rattle.plain.specs.SuspendedProgram.{programRests}
+use Rattle.plain.proofs.SuspendedProgram.{Awake}
+use Rattle.plain.proofs.Tools.{by-test, by-cases, clash}
+use Rattle.history.proofs.Awake.{fresh-awake, no-event-suspends-program, no-run-suspends-program}
+use Rattle.layout.specs.declared.OperationParts.{OperationParts}
+use Rattle.layout.specs.Operations.{suspendedParts, operationParts, operationOf}
+use Rattle.layout.specs.Image.{imageOf, deviceOf, partsOf}
+use Rattle.layout.specs.Places.{recordWords}
+use Rattle.face.specs.Face.{partNamed, stands, freshImage}
+use Rattle.audit.specs.Called.{called, wordsAfter}
+use Rattle.audit.specs.SuspendedProgram.{AnswersSuspendNoProgram, RunsSuspendNoProgram, saysSuspended, CallsSuspendNoProgram, CallRunsSuspendNoProgram}
+use Rattle.audit.proofs.Called.{called-none, called-some}
+use Rattle.audit.proofs.Same.{allowed-is, performed-run}
+
+pub answers-suspend-no-program : (p : Part) → AnswersSuspendNoProgram p
+answers-suspend-no-program p r l after e y f h = rw (allowed-is f .answer) (no-event-suspends-program p r l e h)
+
+pub runs-suspend-no-program : (p : Part) → RunsSuspendNoProgram p
+runs-suspend-no-program p start es ran f = rw (performed-run f) (no-run-suspends-program p start es)
+
+-- ---- word 5 says whether a program is suspended
+
+inside-says : (e : Erase) (i : Inside) → eqb (suspendedParts e i .number) 2 ≡ false
+unfolding suspendedParts
+inside-says e Nothing = refl
+inside-says e (Runs q) = refl
+
+number-says : (o : Operation) → eqb (operationParts o .number) 2 ≡ programRests o
+unfolding operationParts suspensionOf programIsSuspended
+number-says Idle = refl
+number-says (Programming q) = refl
+number-says (ProgramSuspended q) = refl
+number-says (Window e) = refl
+number-says (Erasing e) = refl
+number-says (EraseSuspended s) = inside-says (s .erase) (s .inside)
+number-says (ChipErasing e) = refl
+
+image-says : (r : Device) → saysSuspended (imageOf r) ≡ programRests (r .operation)
+unfolding imageOf
+image-says r = number-says (r .operation)
+
+parts-awake : (o : OperationParts) → eqb (o .number) 2 ≡ false → Awake (operationOf o)
+unfolding operationOf suspensionOf programIsSuspended
+parts-awake o h =
+    let is : ℕ → Bool = eqb (o .number) in
+    by-test Awake (is 1) (λ _. refl)
+    (λ _. by-test Awake (is 2) (λ e. clash e h)
+    (λ _. by-test Awake (is 3) (λ _. refl)
+    (λ _. by-test Awake (is 4) (λ _. refl)
+    (λ _. by-test Awake (is 5) (λ _. refl) (λ _. by-test Awake (is 6) (λ _. refl) (λ _. by-test Awake (is 7) (λ _. refl) (λ _. refl)))))))
+
+-- ---- through C
+
+device-awake : (i : List ℕ) → saysSuspended i ≡ false → Awake (deviceOf i .operation)
+unfolding deviceOf
+device-awake i h = parts-awake (partsOf i) h
+
+pub calls-suspend-no-program : CallsSuspendNoProgram
+calls-suspend-no-program part i cells e h =
+    by-cases (stands part i)
+    (λ s. rw (called-some part i cells e s)
+    (image-says (step (partNamed part) (deviceOf i) (lent cells) e .answer .device) ∙ no-event-suspends-program (partNamed part) (deviceOf i) (lent cells) e (device-awake i h)))
+    (λ s. rw (called-none part i cells e s) h)
+
+run-says : (part : ℕ) (i cells : List ℕ) (es : List Event) → saysSuspended i ≡ false → saysSuspended (wordsAfter part i cells es) ≡ false
+unfolding wordsAfter
+run-says part i cells [] h = h
+run-says part i cells (e ∷ es) h =
+    run-says part (called part i cells e .image) (called part i cells e .cells) es (calls-suspend-no-program part i cells e h)
+
+pub call-runs-suspend-no-program : CallRunsSuspendNoProgram
+call-runs-suspend-no-program part i cells es h =
+    run-says part (freshImage i) cells es (rw (eq-eqb _ recordWords h) (image-says fresh ∙ fresh-awake))

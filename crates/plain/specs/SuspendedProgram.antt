@@ -1,0 +1,117 @@
+-- Document 02, request 9, "Program suspend goes": no event suspends a program any more. A record that was stored with a suspended
+-- program keeps the old rules.
+use Prim.Native.Nat.{ℕ, _<_}
+use mathlib.Core.Path.{_≡_}
+use mathlib.Core.Bool.{Bool, false}
+use mathlib.Core.List.{List, [], _∷_, _++_}
+use Rattle.geometry.specs.declared.Part.{Part}
+use Rattle.geometry.specs.declared.Part.the-variants.{Small}
+use Rattle.geometry.specs.Parts.{wordCount}
+use Rattle.protection.specs.declared.Protection.{Protection}
+use Rattle.protection.specs.Protection.{freshBits}
+use Rattle.plain.specs.declared.Refusal.the-variants.{Busy}
+use Rattle.plain.specs.declared.Program.{Program}
+use Rattle.plain.specs.declared.Operation.{Operation}
+use Rattle.plain.specs.declared.Operation.the-variants.{Programming, ProgramSuspended}
+use Rattle.plain.specs.declared.Running.the-variants.{Programs}
+use Rattle.plain.specs.declared.Command.the-variants.{Ground}
+use Rattle.plain.specs.declared.Device.{Device}
+use Rattle.plain.specs.Bench.{Said, done, refuse, Finding, finding, after, blank, unlock}
+use Rattle.plain.specs.Commands.{programIsSuspended}
+use Rattle.plain.specs.Events.{Event, read, write, wait, cut}
+use Rattle.plain.specs.Lent.{Lent, lent}
+use Rattle.plain.specs.Machine.{Fit, refused, step, run}
+use Rattle.plain.specs.Operations.{runningOf, suspensionOf}
+use Rattle.plain.specs.Programs.{writing}
+use Rattle.plain.specs.Record.{device, program, fresh}
+use Rattle.plain.specs.Sound.{operationSound}
+
+-- is a program suspended?
+abbrev pub programRests : Operation → Bool
+programRests o = programIsSuspended (suspensionOf o)
+
+-- ---- the statements
+
+-- "B0H during any program becomes BUSY": alone, inside a suspended erase, or resumed; so is every write, and nothing changes
+abbrev pub ProgramsTakeNoWrite : Part → Type 0
+ProgramsTakeNoWrite p =
+    (r : Device) (l : Lent) (q : Program) (a w : ℕ) → Fit p r l → a < wordCount p → runningOf (r .operation) ≡ Programs q
+    → step p r l (write a w) ≡ refused Busy r l
+
+-- "Stored records that already hold a suspended program stay sound": as sound as if it ran
+abbrev pub SuspendedStaysSound : Part → Type 0
+SuspendedStaysSound p = (bits : Protection) (q : Program) → operationSound p bits (ProgramSuspended q) ≡ operationSound p bits (Programming q)
+
+-- "after that the state is never reached again": no event leads to it, on any record, sound or not, whatever is lent
+abbrev pub NoEventSuspendsProgram : Part → Type 0
+NoEventSuspendsProgram p =
+    (r : Device) (l : Lent) (e : Event) → programRests (r .operation) ≡ false → programRests (step p r l e .answer .device .operation) ≡ false
+
+-- so no run of a fresh device ever holds a suspended program
+abbrev pub NoRunSuspendsProgram : Part → Type 0
+NoRunSuspendsProgram p = (start : Lent) (es : List Event) → programRests (run p fresh start es .device .operation) ≡ false
+
+-- ---- "they can be read, identified, resumed with 30H or cut, by the old rules": worked, on the small part
+
+-- 1234H at 100 (block 8, words 64 to 127) ran for 2 µs and was suspended for 8, or was suspended at once and for 10
+abbrev restsBegun : Device
+restsBegun = device (record { clock = 10; charge = 34120 }) Ground (ProgramSuspended (program (writing 100 0x1234) 4 false)) freshBits
+
+abbrev restsUnbegun : Device
+restsUnbegun = device (record { clock = 10; charge = 150 }) Ground (ProgramSuspended (program (writing 100 0x1234) 6 false)) freshBits
+
+-- a run from a stored record over blank cells, and what it comes to at word 100
+pub record Stored : Type 0 where
+  pub from : Device
+  pub events : List Event
+  pub stated : Finding
+
+abbrev stored : Device → List Event → List Said → (word clock charge : ℕ) → Stored
+stored r es said w c q = record { from = r; events = es; stated = finding said (w ∷ []) c q }
+
+abbrev pub storedFound : Stored → Finding
+storedFound s = after (run Small (s .from) (lent blank) (s .events)) (100 ∷ [])
+
+-- both unlock writes and the third
+abbrev enters : ℕ → List Event
+enters w = unlock ++ (write 0x555 w ∷ [])
+
+abbrev taken : List Said
+taken = done 0 ∷ done 0 ∷ done 0 ∷ []
+
+abbrev turned : List Said
+turned = done 0 ∷ done 0 ∷ refuse 10 ∷ []
+
+-- every word of the block shows DQ7 (the complement of data bit 7), DQ6 and DQ2, and none flips; time passes it by
+abbrev reads : Stored
+reads =
+    stored restsBegun (read 100 ∷ read 64 ∷ read 127 ∷ wait 1000 ∷ read 100 ∷ read 63 ∷ read 128 ∷ read 3000 ∷ [])
+    (done 0xC4 ∷ done 0xC4 ∷ done 0xC4 ∷ done 0 ∷ done 0xC4 ∷ done 0xFFFF ∷ done 0xFFFF ∷ done 0xFFFF ∷ []) 0xFFFF 1010 49120
+
+-- 90H, 58H and F0H as ever
+abbrev identifies : Stored
+identifies =
+    stored restsBegun (enters 0x90 ++ (read 0 ∷ read 2 ∷ read 100 ∷ read 2048 ∷ write 0 0xF0 ∷ []) ++ enters 0x58 ++ (read 100 ∷ write 0 0xF0 ∷ read 100 ∷ []))
+    (taken ++ (done 0xEC ∷ done 0 ∷ done 0 ∷ done 0xFFFF ∷ done 0 ∷ []) ++ taken ++ (done 0 ∷ done 0 ∷ done 0xC4 ∷ [])) 0xFFFF 10 34120
+
+-- 30H resumes; B0H does not suspend it again, and finds nothing running at its end
+abbrev goesOn : Stored
+goesOn =
+    stored restsBegun (write 0 0x30 ∷ read 100 ∷ read 100 ∷ wait 3 ∷ write 0 0xB0 ∷ read 100 ∷ wait 1 ∷ read 100 ∷ write 0 0xB0 ∷ [])
+    (done 0 ∷ done 0xC4 ∷ done 0x84 ∷ done 0 ∷ refuse 6 ∷ done 0xC4 ∷ done 0 ∷ done 0x1234 ∷ refuse 7 ∷ []) 0x1234 14 102120
+
+-- cut: one debris word if it had begun, and none if not
+abbrev cutBegun : Stored
+cutBegun = stored restsBegun (cut [] ∷ cut (0xFF00 ∷ []) ∷ read 100 ∷ []) (refuse 5 ∷ done 0 ∷ done 0xFF34 ∷ []) 0xFF34 10 34120
+
+abbrev cutUnbegun : Stored
+cutUnbegun = stored restsUnbegun (cut [] ∷ read 100 ∷ []) (done 0 ∷ done 0xFFFF ∷ []) 0xFFFF 10 150
+
+-- A0H, 80H, 48H, 78H and 60H are SUSPENDED, B0H SEQUENCE, and it stays suspended
+abbrev turnsDown : Stored
+turnsDown =
+    stored restsBegun (enters 0xA0 ++ enters 0x80 ++ enters 0x48 ++ enters 0x78 ++ enters 0x60 ++ (write 0 0xB0 ∷ read 100 ∷ []))
+    (turned ++ turned ++ turned ++ turned ++ turned ++ (refuse 7 ∷ done 0xC4 ∷ [])) 0xFFFF 10 34120
+
+abbrev pub storeds : List Stored
+storeds = reads ∷ identifies ∷ goesOn ∷ cutBegun ∷ cutUnbegun ∷ turnsDown ∷ []

@@ -1,0 +1,10 @@
+use borrow.Author.Tests.{eq-eqb, ne-eqb}
+use Rattle.register.proofs.in_erase.Statement.{statement}
+use Rattle.register.proofs.in_erase.Tie as tie
+
+pub in-erase-spec : {M : Type 1} → statement M
+in-erase-spec =
+    tie.close
+    (tie.spec
+    (λ c. rw (eq-eqb _ _ (c .if1 .taken)))  -- returns
+    (λ c. rw (ne-eqb _ _ (c .if1 .left))))  -- returns-2
