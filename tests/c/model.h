@@ -1,6 +1,7 @@
 /*
- * The device once more, in plain C, written from document 01 alone: the tests hold the proved library against it, and the
- * speed table is measured beside it. It shares nothing with the library, so it has its own names for everything.
+ * The device once more, in plain C, written from document 01 and the requests of document 02 alone: the tests hold the proved
+ * library against it, and the speed table is measured beside it. It shares nothing with the library, so it has its own names for
+ * everything.
  *
  * Compiled with -DMODEL_TRUSTS its events do not judge the record they are given (refusal 1), as a plain emulator would not.
  */
