@@ -1,10 +1,10 @@
 -- The data of a record's program has 16 bits if that of each write has: so every record that a call leaves has an image.
 use Prim.Native.Nat.{ℕ, _<_}
 use mathlib.Core.Path.{_≡_, refl}
-use mathlib.Core.Bool.{Bool, true}
+use mathlib.Core.Bool.{true}
 use mathlib.Core.List.{List}
 use native.Mathlib.Nat.{mod-lt}
-use lib.Dec.{eqb, lit<}
+use lib.Dec.{lit<}
 use borrow.Author.Tests.{ltb-true}
 use Rattle.geometry.specs.declared.Part.{Part}
 use Rattle.plain.specs.declared.Erase.{Erase}
@@ -18,7 +18,6 @@ use Rattle.plain.specs.Events.{Event, write}
 use Rattle.plain.specs.Lent.{Lent}
 use Rattle.plain.specs.Machine.{step}
 use Rattle.plain.proofs.Data.{insideData, dataOf, Short, short-lasts}
-use Rattle.plain.proofs.Tools.{by-test}
 use Rattle.history.proofs.KeptOperation.{step-keeps}
 use Rattle.history.proofs.KeptWrite.{Fine, starts}
 use Rattle.layout.specs.declared.OperationParts.{OperationParts}
@@ -26,6 +25,7 @@ use Rattle.layout.specs.Operations.{suspendedParts, operationParts, operationOf
 use Rattle.layout.specs.Image.{deviceOf, partsOf}
 use Rattle.layout.proofs.Round.{Fits}
 use Rattle.audit.specs.Called.{callable}
+use Rattle.audit.proofs.Numbers.{by-number}
 
 -- ---- by the words for C
 
@@ -48,15 +48,8 @@ pub short-fits : (r : Device) → Short (r .operation) → Fits r
 short-fits r h = rw (data-told (r .operation)) h
 
 of-parts : (o : OperationParts) → o .program .writes .word < 65536 → Short (operationOf o)
-unfolding operationOf dataOf insideData
-of-parts o h =
-    let none : 0 < 65536 = lit< tt in
-    let is : ℕ → Bool = eqb (o .number) in
-    by-test Short (is 1) (λ _. h)
-    (λ _. by-test Short (is 2) (λ _. h)
-    (λ _. by-test Short (is 3) (λ _. none)
-    (λ _. by-test Short (is 4) (λ _. none)
-    (λ _. by-test Short (is 5) (λ _. none) (λ _. by-test Short (is 6) (λ _. h) (λ _. by-test Short (is 7) (λ _. none) (λ _. none)))))))
+unfolding dataOf insideData
+of-parts o h = by-number Short short-lasts o h (λ _. h) h
 
 pub image-short : (i : List ℕ) → Short (deviceOf i .operation)
 unfolding deviceOf

@@ -1,7 +1,7 @@
 -- No event suspends a program: of the public functions, and through C.
 use Prim.Native.Nat.{ℕ}
 use mathlib.Core.Path.{_≡_, refl, _∙_}
-use mathlib.Core.Bool.{Bool, false}
+use mathlib.Core.Bool.{false}
 use mathlib.Core.List.{List, [], _∷_}
 use lib.Dec.{eqb}
 use borrow.Author.Tests.{eq-eqb}
@@ -19,16 +19,16 @@ use Rattle.plain.specs.Machine.{step}
 use Rattle.plain.specs.Operations.{suspensionOf}
 use Rattle.plain.specs.Record.{fresh}
 use Rattle.plain.specs.SuspendedProgram.{programRests}
-use Rattle.plain.proofs.SuspendedProgram.{Awake}
-use Rattle.plain.proofs.Tools.{by-test, by-cases, clash}
+use Rattle.plain.proofs.SuspendedProgram.{Awake, awake-lasts}
+use Rattle.plain.proofs.Tools.{by-cases, clash}
 use Rattle.history.proofs.Awake.{fresh-awake, no-event-suspends-program, no-run-suspends-program}
-use Rattle.layout.specs.declared.OperationParts.{OperationParts}
-use Rattle.layout.specs.Operations.{suspendedParts, operationParts, operationOf}
+use Rattle.layout.specs.Operations.{suspendedParts, operationParts}
 use Rattle.layout.specs.Image.{imageOf, deviceOf, partsOf}
 use Rattle.layout.specs.Places.{recordWords}
 use Rattle.face.specs.Face.{partNamed, stands, freshImage}
 use Rattle.audit.specs.Called.{called, wordsAfter}
 use Rattle.audit.specs.SuspendedProgram.{AnswersSuspendNoProgram, RunsSuspendNoProgram, saysSuspended, CallsSuspendNoProgram, CallRunsSuspendNoProgram}
+use Rattle.audit.proofs.Numbers.{by-number}
 use Rattle.audit.proofs.Called.{called-none, called-some}
 use Rattle.audit.proofs.Same.{allowed-is, performed-run}
 
@@ -59,21 +59,11 @@ image-says : (r : Device) → saysSuspended (imageOf r) ≡ programRests (r .ope
 unfolding imageOf
 image-says r = number-says (r .operation)
 
-parts-awake : (o : OperationParts) → eqb (o .number) 2 ≡ false → Awake (operationOf o)
-unfolding operationOf suspensionOf programIsSuspended
-parts-awake o h =
-    let is : ℕ → Bool = eqb (o .number) in
-    by-test Awake (is 1) (λ _. refl)
-    (λ _. by-test Awake (is 2) (λ e. clash e h)
-    (λ _. by-test Awake (is 3) (λ _. refl)
-    (λ _. by-test Awake (is 4) (λ _. refl)
-    (λ _. by-test Awake (is 5) (λ _. refl) (λ _. by-test Awake (is 6) (λ _. refl) (λ _. by-test Awake (is 7) (λ _. refl) (λ _. refl)))))))
+device-awake : (i : List ℕ) → saysSuspended i ≡ false → Awake (deviceOf i .operation)
+unfolding deviceOf suspensionOf programIsSuspended
+device-awake i h = by-number Awake awake-lasts (partsOf i) refl (λ e. clash e h) refl
 
 -- ---- through C
-
-device-awake : (i : List ℕ) → saysSuspended i ≡ false → Awake (deviceOf i .operation)
-unfolding deviceOf
-device-awake i h = parts-awake (partsOf i) h
 
 pub calls-suspend-no-program : CallsSuspendNoProgram
 calls-suspend-no-program part i cells e h =

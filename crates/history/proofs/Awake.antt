@@ -1,20 +1,16 @@
 -- No event suspends a program, so no run of a fresh device holds a suspended one.
 use Prim.Native.Nat.{ℕ}
 use mathlib.Core.Path.{refl, _∙_}
-use mathlib.Core.List.{List, [], _∷_}
 use Rattle.geometry.specs.declared.Part.{Part}
 use Rattle.plain.specs.declared.Operation.{Operation}
 use Rattle.plain.specs.declared.Effect.the-variants.{Starts}
 use Rattle.plain.specs.declared.Device.{Device}
 use Rattle.plain.specs.Commands.{programIsSuspended}
-use Rattle.plain.specs.Events.{Event}
-use Rattle.plain.specs.Lent.{Lent}
-use Rattle.plain.specs.Machine.{step, run}
 use Rattle.plain.specs.Operations.{suspensionOf}
 use Rattle.plain.specs.Record.{fresh}
 use Rattle.plain.specs.SuspendedProgram.{NoEventSuspendsProgram, NoRunSuspendsProgram}
 use Rattle.plain.proofs.SuspendedProgram.{Awake, awake-lasts}
-use Rattle.history.proofs.KeptOperation.{step-keeps}
+use Rattle.history.proofs.KeptOperation.{step-keeps, run-keeps}
 use Rattle.history.proofs.KeptWrite.{Fine, starts}
 
 starts-awake : {p : Part} {w : ℕ} (r : Device) (x : Operation) → Fine p (r .bits) w (r .operation) (Starts x) → Awake x
@@ -23,14 +19,9 @@ starts-awake r x (starts _ _ awake) = awake
 pub no-event-suspends-program : (p : Part) → NoEventSuspendsProgram p
 no-event-suspends-program p r l e h = step-keeps p r l Awake awake-lasts h e (λ o same. same .resting ∙ h) (λ a w _. starts-awake r)
 
-run-awake : (p : Part) (r : Device) (l : Lent) (es : List Event) → Awake (r .operation) → Awake (run p r l es .device .operation)
-unfolding run
-run-awake p r l [] h = h
-run-awake p r l (e ∷ es) h = run-awake p (step p r l e .answer .device) (step p r l e .lent) es (no-event-suspends-program p r l e h)
-
 pub fresh-awake : Awake (fresh .operation)
 unfolding suspensionOf programIsSuspended
 fresh-awake = refl
 
 pub no-run-suspends-program : (p : Part) → NoRunSuspendsProgram p
-no-run-suspends-program p start es = run-awake p fresh start es fresh-awake
+no-run-suspends-program p start es = run-keeps p (λ r. Awake (r .operation)) (no-event-suspends-program p) fresh start es fresh-awake

@@ -2,7 +2,7 @@
 use Prim.Native.Nat.{ℕ, _<_, _≤_}
 use mathlib.Core.Path.{_≡_, refl}
 use mathlib.Core.Bool.{true}
-use mathlib.Core.List.{List, [], _∷_}
+use mathlib.Core.List.{List}
 use lib.ListN.{length}
 use Rattle.geometry.specs.declared.Part.{Part}
 use Rattle.plain.specs.declared.Refusal.the-variants.{Done, State, Debris}
@@ -21,20 +21,15 @@ use Rattle.plain.proofs.Ends.{never-ends-protected}
 use Rattle.plain.proofs.EventLaws.{cut-debris, cut-passes}
 use Rattle.history.proofs.KeptWrite.{never}
 use Rattle.history.proofs.KeptEvents.{step-kept}
+use Rattle.history.proofs.KeptOperation.{run-keeps}
 
 -- every event on a sound record leaves a sound one
 pub step-sound : (p : Part) → StaysSound p
 step-sound p r l e s = step-kept p r s l e .device
 
--- and so does every run; a fresh device's record is sound after any
-pub run-sound : (p : Part) (r : Device) (l : Lent) (es : List Event) → sound p r ≡ true → sound p (run p r l es .device) ≡ true
-unfolding run
-run-sound p r l [] s = s
-run-sound p r l (e ∷ es) s =
-    run-sound p (step p r l e .answer .device) (step p r l e .lent) es (step-sound p r l e s)
-
+-- so a fresh device's record is sound after any run
 pub always-sound : (p : Part) (l : Lent) (es : List Event) → sound p (run p fresh l es .device) ≡ true
-always-sound p l es = run-sound p fresh l es (fresh-sound p)
+always-sound p l es = run-keeps p (λ r. sound p r ≡ true) (step-sound p) fresh l es (fresh-sound p)
 
 -- ---- what never comes
 

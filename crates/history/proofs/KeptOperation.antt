@@ -1,7 +1,8 @@
--- What reads, writes, time and cuts keep of an operation, every event keeps, on any record.
+-- What reads, writes, time and cuts keep of an operation, every event keeps, on any record; and what every event keeps, a run keeps.
 use Prim.Native.Nat.{ℕ}
 use mathlib.Core.Path.{_≡_, refl}
 use mathlib.Core.Bool.{Bool, false}
+use mathlib.Core.List.{List, [], _∷_}
 use borrow.Author.Tests.{ltb-true, not-false}
 use Rattle.geometry.specs.declared.Part.{Part}
 use Rattle.geometry.specs.Parts.{wordCount}
@@ -14,7 +15,7 @@ use Rattle.plain.specs.declared.Device.{Device}
 use Rattle.plain.specs.Commands.{effected}
 use Rattle.plain.specs.Events.{Event, read, write, wait, cut}
 use Rattle.plain.specs.Lent.{Lent}
-use Rattle.plain.specs.Machine.{Outcome, ladder, now, Fit, readEvent, writeEvent, waitEvent, cutEvent, step}
+use Rattle.plain.specs.Machine.{Outcome, ladder, now, Fit, readEvent, writeEvent, waitEvent, cutEvent, step, run}
 use Rattle.plain.proofs.Facts.{sound-bits, sound-operation, sound-command}
 use Rattle.plain.proofs.Ladder.{by-ladder}
 use Rattle.plain.proofs.Lasting.{Lasting, ticks-last}
@@ -51,3 +52,10 @@ module _ (p : Part) (r : Device) (l : Lent) (P : Operation → Type 0) (lasts : 
         (written-fine p (r .bits) (sound-bits p r (fit .sound)) a w (ltb-true a (wordCount p) (not-false _ t)) (r .operation) (r .command) (sound-operation p r (fit .sound) (r .operation) refl) (sound-command p r (fit .sound))))
     step-keeps (wait n) f s = climbs _ Clock _ (λ _ _. ticks-last p P lasts n (now r l) h)
     step-keeps (cut debris) f s = climbs _ Debris _ (λ _ _. lasts .idle)
+
+-- ---- a run
+
+pub run-keeps : (p : Part) (P : Device → Type 0) → ((r : Device) (l : Lent) (e : Event) → P r → P (step p r l e .answer .device)) → (r : Device) (l : Lent) (es : List Event) → P r → P (run p r l es .device)
+unfolding run
+run-keeps p P f r l [] h = h
+run-keeps p P f r l (e ∷ es) h = run-keeps p P f (step p r l e .answer .device) (step p r l e .lent) es (f r l e h)
