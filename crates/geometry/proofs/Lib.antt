@@ -1,4 +1,3 @@
-pub mod Table
 pub mod Units
 pub mod Counts
 pub mod Laid

@@ -38,9 +38,6 @@ past b l =
     let m : 262 ≤ b = omega arith in
     record { first-is = rw (le-ltb b 8 k, le-ltb b 262 m, le-ltb b 270 l); size-is = rw (le-ltb b 8 k, le-ltb b 262 m, le-ltb b 270 l) }
 
-pub first-past : (b : ℕ) → 270 ≤ b → 2048 ≡ firstIn b
-first-past b l = sym (past b l .first-is)
-
 -- what holds in every run holds of every block
 by-run : (P : Type 0) (b : ℕ) → (b < 8 → P) → (8 ≤ b → b < 262 → P) → (262 ≤ b → b < 270 → P) → (270 ≤ b → P) → P
 by-run P b f g h i = go (decLt b 8) (decLt b 262) (decLt b 270)
@@ -50,6 +47,12 @@ by-run P b f g h i = go (decLt b 8) (decLt b 262) (decLt b 270)
     go (no l) (yes m) e = g (omega arith) m
     go (no l) (no m) (yes n) = h (omega arith) n
     go (no l) (no m) (no n) = i (omega arith)
+
+-- so many units lie before block b, if each run says so that b can be in
+pub first-by : (b r : ℕ) → (b < 8 → r ≡ b) → (8 ≤ b → b < 262 → r ≡ 8 * (b - 7)) → (262 ≤ b → b < 270 → r ≡ 2040 + (b - 262)) → (270 ≤ b → r ≡ 2048) → r ≡ firstIn b
+first-by b r f g h i =
+    by-run (r ≡ firstIn b) b (λ l. f l ∙ sym (boot b l .first-is)) (λ l m. g l m ∙ sym (main b l m .first-is))
+    (λ l m. h l m ∙ sym (top b l m .first-is)) (λ l. i l ∙ sym (past b l .first-is))
 
 -- ---- the block of a unit
 
@@ -74,6 +77,11 @@ by-unit P k f g h = go (decLt k 8) (decLt k 2040)
     go (yes l) d = f l
     go (no l) (yes m) = g (omega arith) m
     go (no l) (no m) = h (omega arith)
+
+-- unit k is in this block, if each run says so that k can be in
+pub block-by : (k r : ℕ) → (k < 8 → r ≡ k) → (8 ≤ k → k < 2040 → r ≡ 7 + k / 8) → (2040 ≤ k → r ≡ 262 + (k - 2040)) → r ≡ blockIn k
+block-by k r f g h =
+    by-unit (r ≡ blockIn k) k (λ l. f l ∙ sym (unit-boot k l)) (λ l m. g l m ∙ sym (unit-main k l m)) (λ l. h l ∙ sym (unit-top k l))
 
 -- ---- the rules
 

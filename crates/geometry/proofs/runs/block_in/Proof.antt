@@ -1,4 +1,6 @@
+use native.Mathlib.Omega.{arith}
 use borrow.Author.Needs.{needs}
+use Rattle.geometry.proofs.Units.{block-by}
 use Rattle.geometry.proofs.runs.block_in.Statement.{statement}
 use Rattle.geometry.proofs.runs.block_in.Tie as tie
 
@@ -6,8 +8,8 @@ pub block-in-spec : {M : Type 1} → statement M
 block-in-spec =
     tie.close
     (tie.spec
-    (λ c κs. search needs)  -- run-of-unit-requires
-    (λ c. search needs)  -- sub-result
-    (λ c. search needs)  -- shr-result
-    (λ c. record { fits = c .before .before .before .run-of-unit .ensures .fits (search needs) })  -- add-result
-    (λ c. search needs))  -- returns
+    (λ c. block-by _ _ (λ l. omega arith) (λ l m. omega arith) (λ l. omega arith))  -- returns
+    (λ c. search needs)  -- add-result
+    (λ c. block-by _ _ (λ l. omega arith) (λ l m. omega arith) (λ l. omega arith))  -- returns-2
+    (λ c. search needs)  -- add-result-2
+    (λ c. block-by _ _ (λ l. omega arith) (λ l m. omega arith) (λ l. omega arith)))  -- returns-3
