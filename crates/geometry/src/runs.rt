@@ -19,14 +19,14 @@ pub fn block_in(unit: usize) -> usize
 pub fn first_in(block: usize) -> usize
     ensures { λ r. ⌜ r ≡ firstIn block ⌝ }
 {
+    if 270 <= block {
+        return 2048;
+    }
     if block < 8 {
         return block;
     }
     if block < 262 {
         return (block - 7) << 3;
     }
-    if block < 270 {
-        return 2040 + (block - 262);
-    }
-    2048
+    2040 + (block - 262)
 }

@@ -9,8 +9,8 @@ first-in-spec =
     tie.close
     (tie.spec
     (λ c. first-by _ _ (λ l. omega arith) (λ l m. omega arith) (λ l m. omega arith) (λ l. omega arith))  -- returns
-    (λ c. search needs)  -- sub-result
     (λ c. first-by _ _ (λ l. omega arith) (λ l m. omega arith) (λ l m. omega arith) (λ l. omega arith))  -- returns-2
-    (λ c. search needs)  -- add-result
+    (λ c. search needs)  -- sub-result
     (λ c. first-by _ _ (λ l. omega arith) (λ l m. omega arith) (λ l m. omega arith) (λ l. omega arith))  -- returns-3
+    (λ c. search needs)  -- add-result
     (λ c. first-by _ _ (λ l. omega arith) (λ l m. omega arith) (λ l m. omega arith) (λ l. omega arith)))  -- returns-4
