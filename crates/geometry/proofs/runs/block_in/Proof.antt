@@ -8,8 +8,8 @@ pub block-in-spec : {M : Type 1} → statement M
 block-in-spec =
     tie.close
     (tie.spec
-    (λ c. block-by _ _ (λ l. omega arith) (λ l m. omega arith) (λ l. omega arith))  -- returns
+    (λ c. block-by _ _ (omega arith))  -- returns
     (λ c. search needs)  -- add-result
-    (λ c. block-by _ _ (λ l. omega arith) (λ l m. omega arith) (λ l. omega arith))  -- returns-2
+    (λ c. block-by _ _ (omega arith))  -- returns-2
     (λ c. search needs)  -- add-result-2
-    (λ c. block-by _ _ (λ l. omega arith) (λ l m. omega arith) (λ l. omega arith)))  -- returns-3
+    (λ c. block-by _ _ (omega arith)))  -- returns-3

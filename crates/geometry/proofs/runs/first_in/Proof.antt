@@ -8,9 +8,9 @@ pub first-in-spec : {M : Type 1} → statement M
 first-in-spec =
     tie.close
     (tie.spec
-    (λ c. first-by _ _ (λ l. omega arith) (λ l m. omega arith) (λ l m. omega arith) (λ l. omega arith))  -- returns
-    (λ c. first-by _ _ (λ l. omega arith) (λ l m. omega arith) (λ l m. omega arith) (λ l. omega arith))  -- returns-2
+    (λ c. first-by _ _ (omega arith))  -- returns
+    (λ c. first-by _ _ (omega arith))  -- returns-2
     (λ c. search needs)  -- sub-result
-    (λ c. first-by _ _ (λ l. omega arith) (λ l m. omega arith) (λ l m. omega arith) (λ l. omega arith))  -- returns-3
+    (λ c. first-by _ _ (omega arith))  -- returns-3
     (λ c. search needs)  -- add-result
-    (λ c. first-by _ _ (λ l. omega arith) (λ l m. omega arith) (λ l m. omega arith) (λ l. omega arith)))  -- returns-4
+    (λ c. first-by _ _ (omega arith)))  -- returns-4
