@@ -1,6 +1,6 @@
 -- What `machine::exposed` and `machine::reads_cells` tell is so.
 use Prim.Native.Nat.{ℕ, _<_, _≤_}
-use mathlib.Core.Path.{_≡_, refl, ap, _∙_}
+use mathlib.Core.Path.{_≡_, refl, sym, ap, _∙_}
 use mathlib.Core.Bool.{true}
 use mathlib.Core.List.{List}
 use lib.ListN.{length}
@@ -18,7 +18,7 @@ use Rattle.plain.specs.Programs.{writes, firstWord}
 use Rattle.plain.specs.Record.{answer}
 use Rattle.plain.specs.Sound.{sound}
 use Rattle.plain.specs.Cut.{wordOf, begunProgram, debrisNeeded, cutLent}
-use Rattle.plain.specs.Machine.{Outcome, outcome, Fit, readEvent, cutEvent}
+use Rattle.plain.specs.Machine.{Outcome, outcome, Fit, readEvent, cutEvent, step}
 use Rattle.plain.proofs.BegunSound.{begun-lies}
 use Rattle.plain.proofs.CutCells.{untouched}
 use Rattle.plain.proofs.EventLaws.{read-passes}
@@ -31,6 +31,8 @@ use Rattle.cutting.specs.Cuttable.{exposedBy}
 use Rattle.mapping.specs.Mapped.{givesCells}
 use Rattle.mapping.proofs.GivesCells.{gives-cells}
 use Rattle.judged.specs.Asked.{exposedNow, readsCells}
+use Rattle.audit.specs.Promises.{Spared, ReadsCells}
+use Rattle.audit.proofs.Same.{allowed-is}
 
 -- ---- no accepted cut changes a cell outside what `exposed` tells
 
@@ -45,8 +47,8 @@ unfolding wordOf
 named p w d x e h = rw e (ap At (one-written p d (firstWord d) x (first-written p d) h))
 
 module _ (p : Part) (r : Device) (l : Lent) (debris : List ℕ) (x : ℕ) (no-word : exposedNow p r .word ≡ At x → ⊥) (no-block : (b : ℕ) → exposedNow p r .block ≡ At b → blockOf p x ≡ b → ⊥) where
-  abbrev Spared : Outcome → Type 0
-  Spared o = cellAt (o .lent) x ≡ cellAt l x
+  abbrev Spares : Outcome → Type 0
+  Spares o = cellAt (o .lent) x ≡ cellAt l x
 
   sparing : Fit p r l → debrisNeeded p (r .operation) ≤ length debris → cellAt (cutLent p (r .operation) debris l) x ≡ cellAt l x
   sparing f n =
@@ -55,17 +57,26 @@ module _ (p : Part) (r : Device) (l : Lent) (debris : List ℕ) (x : ℕ) (no-wo
       (λ d e. by-cases (writes d x) (λ t. absurd (no-word (ap (λ (y : Exposed). y .word) told ∙ named p (begunProgram p (r .operation)) d x e t))) (λ t. t))
       (λ b e. no-block b (ap (λ (y : Exposed). y .block) told ∙ e))
 
-  pub spared : cellAt (cutEvent p r l debris .lent) x ≡ cellAt l x
+  sparing-all : cellAt (cutEvent p r l debris .lent) x ≡ cellAt l x
   unfolding cutEvent
-  spared = by-ladder p r l _ Debris _ Spared (λ _. refl) refl (λ _. refl) (λ f t. sparing f (ltb-false (length debris) (debrisNeeded p (r .operation)) t))
+  sparing-all = by-ladder p r l _ Debris _ Spares (λ _. refl) refl (λ _. refl) (λ f t. sparing f (ltb-false (length debris) (debrisNeeded p (r .operation)) t))
+
+pub spared : (p : Part) → Spared p
+unfolding step
+spared p r l after debris y told x is c no-word no-block =
+    rw (allowed-is c .lent) (sparing-all p r l debris x (λ e. no-word (ap (λ (t : Exposed). t .word) is ∙ e)) (λ b e. no-block b (ap (λ (t : Exposed). t .block) is ∙ e)))
 
 -- ---- where `reads_cells` says so, a read gives the cell and changes nothing
 
-pub reads-cells : (p : Part) (r : Device) (l : Lent) (a : ℕ) → length (l .cells) ≡ wordCount p → a < wordCount p → readsCells p r (bankOf p a) ≡ true
+read-cell : (p : Part) (r : Device) (l : Lent) (a : ℕ) → length (l .cells) ≡ wordCount p → a < wordCount p → readsCells p r (bankOf p a) ≡ true
     → readEvent p r l a ≡ outcome (answer Done (cellAt l a) r) l
 unfolding readsCells
-reads-cells p r l a whole h e =
+read-cell p r l a whole h e =
     let s = both-left (sound p r) (givesCells p (r .command) (r .operation) (bankOf p a)) e in
     let g = both-right (sound p r) (givesCells p (r .command) (r .operation) (bankOf p a)) e in
     read-passes p r l a (record { sound = s; whole = whole }) h
     ∙ rw (gives-cells p (r .bits) (r .command) (r .operation) l a (sound-operation p r s (r .operation) refl) g)
+
+pub reads-cells : (p : Part) → ReadsCells p
+unfolding step
+reads-cells p r l after a y is whole h c = allowed-is c .answer ∙ ap (λ (o : Outcome). o .answer) (read-cell p r l a whole h (sym is))

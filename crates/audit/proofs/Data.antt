@@ -1,11 +1,9 @@
 -- The data of a record's program has 16 bits if that of each write has: so every record that a call leaves has an image.
 use Prim.Native.Nat.{ℕ, _<_}
 use mathlib.Core.Path.{_≡_, refl}
-use mathlib.Core.Bool.{true}
 use mathlib.Core.List.{List}
 use native.Mathlib.Nat.{mod-lt}
 use lib.Dec.{lit<}
-use borrow.Author.Tests.{ltb-true}
 use Rattle.geometry.specs.declared.Part.{Part}
 use Rattle.plain.specs.declared.Erase.{Erase}
 use Rattle.plain.specs.declared.Inside.{Inside}
@@ -14,7 +12,7 @@ use Rattle.plain.specs.declared.Operation.{Operation}
 use Rattle.plain.specs.declared.Operation.the-variants.{Idle, Programming, ProgramSuspended, Window, Erasing, EraseSuspended, ChipErasing}
 use Rattle.plain.specs.declared.Effect.the-variants.{Starts}
 use Rattle.plain.specs.declared.Device.{Device}
-use Rattle.plain.specs.Events.{Event, write}
+use Rattle.plain.specs.Events.{Event, read, write, wait, cut}
 use Rattle.plain.specs.Lent.{Lent}
 use Rattle.plain.specs.Machine.{step}
 use Rattle.plain.proofs.Data.{insideData, dataOf, Short, short-lasts}
@@ -24,7 +22,6 @@ use Rattle.layout.specs.declared.OperationParts.{OperationParts}
 use Rattle.layout.specs.Operations.{suspendedParts, operationParts, operationOf}
 use Rattle.layout.specs.Image.{deviceOf, partsOf}
 use Rattle.layout.proofs.Round.{Fits}
-use Rattle.audit.specs.Called.{callable}
 use Rattle.audit.proofs.Numbers.{by-number}
 
 -- ---- by the words for C
@@ -57,14 +54,21 @@ image-short i = of-parts (partsOf i) (mod-lt _ (lit< tt))
 
 -- ---- by the events
 
--- the word of a write is short
-word-short : (e : Event) → callable e ≡ true → (a w : ℕ) → e ≡ write a w → w < 65536
-unfolding callable
-word-short e c a w is = ltb-true w 65536 (rw is at c)
+-- the word of a write has 16 bits
+unfoldable pub Brief : Event → Type 0
+Brief (read a) = Unit {0}
+Brief (write a w) = w < 65536
+Brief (wait n) = Unit {0}
+Brief (cut debris) = Unit {0}
+
+pub cut-brief : (debris : List ℕ) → Brief (cut debris)
+unfolding Brief
+cut-brief debris = tt
 
 starts-short : {p : Part} {w : ℕ} (r : Device) → w < 65536 → Short (r .operation) → (x : Operation) → Fine p (r .bits) w (r .operation) (Starts x) → Short x
 starts-short r g h x (starts _ short _) = short g h
 
-pub step-short : (p : Part) (r : Device) (l : Lent) → Short (r .operation) → (e : Event) → callable e ≡ true → Short (step p r l e .answer .device .operation)
+pub step-short : (p : Part) (r : Device) (l : Lent) → Short (r .operation) → (e : Event) → Brief e → Short (step p r l e .answer .device .operation)
+unfolding Brief
 step-short p r l h e c =
-    step-keeps p r l Short short-lasts h e (λ o same. rw (same .word) h) (λ a w is. starts-short r (word-short e c a w is) h)
+    step-keeps p r l Short short-lasts h e (λ o same. rw (same .word) h) (λ a w is. starts-short r (rw is at c) h)

@@ -7,8 +7,9 @@ use Rattle.geometry.specs.declared.Part.{Part}
 use Rattle.plain.specs.declared.Refusal.the-variants.{Done, State}
 use Rattle.plain.specs.declared.Device.{Device}
 use Rattle.plain.specs.declared.Answer.{Answer}
+use Rattle.plain.specs.Events.{wait}
 use Rattle.plain.specs.Lent.{Lent}
-use Rattle.plain.specs.Machine.{waitEvent}
+use Rattle.plain.specs.Machine.{waitEvent, step}
 use Rattle.plain.specs.Refusals.{number}
 use Rattle.plain.specs.Sound.{sound}
 use Rattle.plain.proofs.Ends.{never-ends-protected}
@@ -16,9 +17,9 @@ use Rattle.plain.proofs.EventLaws.{wait-barred}
 use Rattle.plain.proofs.Ladder.{entry-state}
 use Rattle.plain.proofs.Tools.{by-cases}
 use Rattle.history.proofs.Kept.{step-sound, no-run-ends-protected}
-use Rattle.audit.specs.Performed.{waits}
+use Rattle.audit.specs.Performed.{Allowed}
 use Rattle.audit.specs.Ends.{WaitsSpareProtected, RunsSpareProtected, AnswersStaySound}
-use Rattle.audit.proofs.Same.{allowed-is, performed-run}
+use Rattle.audit.proofs.Same.{allowed-is, runs-are}
 
 -- a wait that is taken was of a sound record
 taken-sound : (p : Part) (r : Device) (l : Lent) (n : ℕ) → waitEvent p r l n .answer .refusal ≡ Done → sound p r ≡ true
@@ -30,12 +31,16 @@ taken-sound p r l n e =
     let wrong : 1 ≡ 0 = ap number state in
     absurd (omega (arith, wrong)))
 
+wait-is : {p : Part} {r : Device} {l after : Lent} {n : ℕ} {y : Answer} → Allowed p r l (wait n) y after → y ≡ waitEvent p r l n .answer
+unfolding step
+wait-is f = allowed-is f .answer
+
 pub waits-spare-protected : (p : Part) → WaitsSpareProtected p
-waits-spare-protected p r l after n y (waits d f) e =
-    never-ends-protected p r l n (taken-sound p r l n (ap (λ (x : Answer). x .refusal) (sym d) ∙ e))
+waits-spare-protected p r l after n y f e =
+    never-ends-protected p r l n (taken-sound p r l n (ap (λ (x : Answer). x .refusal) (sym (wait-is f)) ∙ e))
 
 pub runs-spare-protected : (p : Part) → RunsSpareProtected p
-runs-spare-protected p start es ran l n f = rw (performed-run f) (no-run-ends-protected p start es l n)
+runs-spare-protected p start es ran l n f = rw (runs-are f) (no-run-ends-protected p start es l n)
 
 pub answers-stay-sound : (p : Part) → AnswersStaySound p
 answers-stay-sound p r l after e y f s = rw (allowed-is f .answer) (step-sound p r l e s)

@@ -1,8 +1,12 @@
+pub mod Asks
 pub mod Same
 pub mod Asked
 pub mod Carried
 pub mod Ends
 pub mod Numbers
 pub mod Data
+pub mod Words
 pub mod Called
+pub mod Calls
+pub mod CallPromises
 pub mod SuspendedProgram

@@ -9,19 +9,21 @@ use Rattle.plain.specs.declared.Answer.{Answer}
 use Rattle.plain.specs.Events.{Event}
 use Rattle.plain.specs.Lent.{Lent, lent}
 use Rattle.plain.specs.Machine.{Outcome, Ran, readEvent, writeEvent, step, run}
+use Rattle.plain.specs.Record.{fresh}
 use Rattle.plain.proofs.Ladder.{by-ladder}
-use Rattle.audit.specs.Performed.{Allowed, reads, writes, waits, cuts, turn, Performed, none, more}
+use Rattle.audit.specs.Performed.{Allowed, reads, writes, waits, cuts, turn, Performed, none, more, Runs}
+use Rattle.audit.specs.Promises.{SameAnswer}
 
 -- a read and a write leave what is lent
 module _ (p : Part) (r : Device) (l : Lent) where
   Keeps : Outcome → Type 0
   Keeps o = o .lent ≡ l
 
-  read-keeps : (a : ℕ) → readEvent p r l a .lent ≡ l
+  pub read-keeps : (a : ℕ) → readEvent p r l a .lent ≡ l
   unfolding Keeps readEvent
   read-keeps a = by-ladder p r l _ Address _ Keeps (λ _. refl) refl (λ _. refl) (λ _ _. refl)
 
-  write-keeps : (a w : ℕ) → writeEvent p r l a w .lent ≡ l
+  pub write-keeps : (a w : ℕ) → writeEvent p r l a w .lent ≡ l
   unfolding Keeps writeEvent
   write-keeps a w = by-ladder p r l _ Address _ Keeps (λ _. refl) refl (λ _. refl) (λ _ _. refl)
 
@@ -32,14 +34,13 @@ pub record Is (o : Outcome) (y : Answer) (after : Lent) : Type 0 where
 -- what a contract allows is what the plain machine gives
 pub allowed-is : {p : Part} {r : Device} {l after : Lent} {e : Event} {y : Answer} → Allowed p r l e y after → Is (step p r l e) y after
 unfolding step
-allowed-is {p} {r} {l} (reads {a} d) = record { answer = d; lent = sym (read-keeps p r l a) }
-allowed-is {p} {r} {l} (writes {a} {w} d) = record { answer = d; lent = sym (write-keeps p r l a w) }
-allowed-is (waits d f) = record { answer = d; lent = ap lent f }
-allowed-is (cuts d f) = record { answer = d; lent = ap lent f }
+allowed-is {p} {r} {l} (reads t at {a} d) = record { answer = d; lent = sym (read-keeps p r l a) }
+allowed-is {p} {r} {l} (writes t at {a} {w} d) = record { answer = d; lent = sym (write-keeps p r l a w) }
+allowed-is (waits t at d) = record { answer = d .0; lent = ap lent (d .1) }
+allowed-is (cuts t at by d) = record { answer = d .0; lent = ap lent (d .1) }
 
--- once for all four
-pub same-answer : {p : Part} {r : Device} {l one two : Lent} {e : Event} {y z : Answer} → Allowed p r l e y one → Allowed p r l e z two → (y ≡ z) × (one ≡ two)
-same-answer f g = (allowed-is f .answer ∙ sym (allowed-is g .answer), allowed-is f .lent ∙ sym (allowed-is g .lent))
+pub same-answer : (p : Part) → SameAnswer p
+same-answer p r l one two e y z f g = (allowed-is f .answer ∙ sym (allowed-is g .answer), allowed-is f .lent ∙ sym (allowed-is g .lent))
 
 abbrev after : Event → Ran → Answer → Ran
 after e x z = record { device = x .device; lent = x .lent; turns = turn e z ∷ x .turns }
@@ -48,8 +49,11 @@ one-more : (p : Part) (r : Device) (l now : Lent) (e : Event) (es : List Event) 
     → after e rest y ≡ after e (run p (step p r l e .answer .device) (step p r l e .lent) es) (step p r l e .answer)
 one-more p r l now e es y rest is h = rw (h, is .answer, is .lent)
 
--- and so a run of the public functions is the plain machine's run
-pub performed-run : {p : Part} {r : Device} {l : Lent} {es : List Event} {ran : Ran} → Performed p r l es ran → ran ≡ run p r l es
+performed-run : {p : Part} {r : Device} {l : Lent} {es : List Event} {ran : Ran} → Performed p r l es ran → ran ≡ run p r l es
 unfolding run
 performed-run none = refl
 performed-run {p} {r} {l} (more {after = now} {e = e} {es = es} {y = y} {rest = rest} f g) = one-more p r l now e es y rest (allowed-is f) (performed-run g)
+
+-- and so a run of the public functions is the plain machine's run
+pub runs-are : {p : Part} {start : Lent} {es : List Event} {ran : Ran} → Runs p start es ran → ran ≡ run p fresh start es
+runs-are {p} {start} {es} f = performed-run (f .performed) ∙ ap (λ (r : Device). run p r start es) (f .begun)

@@ -2,9 +2,8 @@
 use Prim.Native.Nat.{ℕ}
 use mathlib.Core.Path.{_≡_, refl, _∙_}
 use mathlib.Core.Bool.{false}
-use mathlib.Core.List.{List, [], _∷_}
+use mathlib.Core.List.{List}
 use lib.Dec.{eqb}
-use borrow.Author.Tests.{eq-eqb}
 use Rattle.geometry.specs.declared.Part.{Part}
 use Rattle.plain.specs.declared.Erase.{Erase}
 use Rattle.plain.specs.declared.Inside.{Inside}
@@ -20,23 +19,23 @@ use Rattle.plain.specs.Operations.{suspensionOf}
 use Rattle.plain.specs.Record.{fresh}
 use Rattle.plain.specs.SuspendedProgram.{programRests}
 use Rattle.plain.proofs.SuspendedProgram.{Awake, awake-lasts}
-use Rattle.plain.proofs.Tools.{by-cases, clash}
+use Rattle.plain.proofs.Tools.{clash}
 use Rattle.history.proofs.Awake.{fresh-awake, no-event-suspends-program, no-run-suspends-program}
 use Rattle.layout.specs.Operations.{suspendedParts, operationParts}
 use Rattle.layout.specs.Image.{imageOf, deviceOf, partsOf}
-use Rattle.layout.specs.Places.{recordWords}
-use Rattle.face.specs.Face.{partNamed, stands, freshImage}
-use Rattle.audit.specs.Called.{called, wordsAfter}
+use Rattle.face.specs.Face.{partNamed}
+use Rattle.audit.specs.Called.{Held, Calls, none, more}
 use Rattle.audit.specs.SuspendedProgram.{AnswersSuspendNoProgram, RunsSuspendNoProgram, saysSuspended, CallsSuspendNoProgram, CallRunsSuspendNoProgram}
 use Rattle.audit.proofs.Numbers.{by-number}
-use Rattle.audit.proofs.Called.{called-none, called-some}
-use Rattle.audit.proofs.Same.{allowed-is, performed-run}
+use Rattle.audit.proofs.Called.{called, by-standing, called-is}
+use Rattle.audit.proofs.CallPromises.{made-fresh}
+use Rattle.audit.proofs.Same.{allowed-is, runs-are}
 
 pub answers-suspend-no-program : (p : Part) → AnswersSuspendNoProgram p
 answers-suspend-no-program p r l after e y f h = rw (allowed-is f .answer) (no-event-suspends-program p r l e h)
 
 pub runs-suspend-no-program : (p : Part) → RunsSuspendNoProgram p
-runs-suspend-no-program p start es ran f = rw (performed-run f) (no-run-suspends-program p start es)
+runs-suspend-no-program p start es ran f = rw (runs-are f) (no-run-suspends-program p start es)
 
 -- ---- word 5 says whether a program is suspended
 
@@ -65,19 +64,18 @@ device-awake i h = by-number Awake awake-lasts (partsOf i) refl (λ e. clash e h
 
 -- ---- through C
 
-pub calls-suspend-no-program : CallsSuspendNoProgram
-calls-suspend-no-program part i cells e h =
-    by-cases (stands part i)
-    (λ s. rw (called-some part i cells e s)
-    (image-says (step (partNamed part) (deviceOf i) (lent cells) e .answer .device) ∙ no-event-suspends-program (partNamed part) (deviceOf i) (lent cells) e (device-awake i h)))
-    (λ s. rw (called-none part i cells e s) h)
+says-no : (part : ℕ) (words cells : List ℕ) (e : Event) → saysSuspended words ≡ false → saysSuspended (called part words cells e .image) ≡ false
+says-no part words cells e h =
+    by-standing part words cells (λ f. saysSuspended (f .image) ≡ false) e h
+    (image-says (step (partNamed part) (deviceOf words) (lent cells) e .answer .device)
+    ∙ no-event-suspends-program (partNamed part) (deviceOf words) (lent cells) e (device-awake words h))
 
-run-says : (part : ℕ) (i cells : List ℕ) (es : List Event) → saysSuspended i ≡ false → saysSuspended (wordsAfter part i cells es) ≡ false
-unfolding wordsAfter
-run-says part i cells [] h = h
-run-says part i cells (e ∷ es) h =
-    run-says part (called part i cells e .image) (called part i cells e .cells) es (calls-suspend-no-program part i cells e h)
+pub calls-suspend-no-program : CallsSuspendNoProgram
+calls-suspend-no-program part words cells e f c h = rw (called-is part words cells c) (says-no part words cells e h)
+
+run-says : {part : ℕ} {words cells : List ℕ} {es : List Event} {ran : Held} → Calls part words cells es ran → saysSuspended words ≡ false → saysSuspended (ran .words) ≡ false
+run-says none h = h
+run-says {part} {words} {cells} (more {e = e} {f = f} c m g) h = run-says g (calls-suspend-no-program part words cells e f c h)
 
 pub call-runs-suspend-no-program : CallRunsSuspendNoProgram
-call-runs-suspend-no-program part i cells es h =
-    run-says part (freshImage i) cells es (rw (eq-eqb _ recordWords h) (image-says fresh ∙ fresh-awake))
+call-runs-suspend-no-program part start es ran runs = run-says (runs .calls) (rw (made-fresh (runs .made)) (image-says fresh ∙ fresh-awake))

@@ -11,9 +11,8 @@ use Rattle.plain.specs.Ends.{endsInWait}
 use Rattle.plain.specs.Events.{Event, wait}
 use Rattle.plain.specs.Lent.{Lent}
 use Rattle.plain.specs.Machine.{Ran}
-use Rattle.plain.specs.Record.{fresh}
 use Rattle.plain.specs.Sound.{sound}
-use Rattle.audit.specs.Performed.{Allowed, Performed}
+use Rattle.audit.specs.Performed.{Allowed, Runs}
 
 -- in a wait that is taken no operation ends in a block then protected, whatever the record was
 abbrev pub WaitsSpareProtected : Part → Type 0
@@ -23,7 +22,7 @@ WaitsSpareProtected p =
 -- and none will after any run from `machine::fresh`
 abbrev pub RunsSpareProtected : Part → Type 0
 RunsSpareProtected p =
-    (start : Lent) (es : List Event) (ran : Ran) (l : Lent) (n : ℕ) → Performed p fresh start es ran → endsInWait p (ran .device) l n ≡ false
+    (start : Lent) (es : List Event) (ran : Ran) (l : Lent) (n : ℕ) → Runs p start es ran → endsInWait p (ran .device) l n ≡ false
 
 -- "every event on a sound record leaves a sound one"
 abbrev pub AnswersStaySound : Part → Type 0

@@ -1,4 +1,8 @@
+pub mod Slices
+pub mod Asks
 pub mod Performed
-pub mod Ends
+pub mod Promises
 pub mod Called
+pub mod CallPromises
+pub mod Ends
 pub mod SuspendedProgram

@@ -1,21 +1,36 @@
 -- A run of the public functions: each event is given the record and what is lent as the one before left them, and each answer is
--- any that the function's contract allows.
+-- any that the function's contract allows. `Learnt` is what a caller learns of a call: the function's `ensures`, whatever they are.
 use Prim.Native.Nat.{ℕ}
-use mathlib.Core.Path.{_≡_}
 use mathlib.Core.List.{List, [], _∷_}
+use contract.Lifetimes.{Lfts}
 use Rattle.geometry.specs.declared.Part.{Part}
 use Rattle.plain.specs.declared.Device.{Device}
 use Rattle.plain.specs.declared.Answer.{Answer}
 use Rattle.plain.specs.Events.{Event, read, write, wait, cut, Turn}
 use Rattle.plain.specs.Lent.{Lent, lent}
-use Rattle.plain.specs.Machine.{Ran, readEvent, writeEvent, waitEvent, cutEvent}
+use Rattle.plain.specs.Machine.{Ran}
+use Rattle.machine.proofs.fresh.Reads as Fresh
+use Rattle.machine.proofs.read.Reads as Read
+use Rattle.machine.proofs.write.Reads as Write
+use Rattle.machine.proofs.wait.Reads as Wait
+use Rattle.machine.proofs.cut.Reads as Cut
+use Rattle.audit.specs.Slices.{Location, slice}
 
--- the `ensures` of `machine::read`, `write`, `wait` and `cut`; a read and a write are lent cells that they cannot change
+-- a record that `machine::fresh` may give
+abbrev pub Begun : Device → Type 0
+Begun r = Fresh.Learnt tt tt r tt
+
+-- an answer that `machine::read`, `write`, `wait` and `cut` may give, and what is lent afterwards: a call's arguments, its answer, and the
+-- arguments at its end; the cells of a read and of a write are lent unchangeable
 pub data Allowed (p : Part) (r : Device) (l : Lent) : Event → Answer → Lent → Type 0 where
-  reads : {a : ℕ} {y : Answer} → y ≡ readEvent p r l a .answer → Allowed p r l (read a) y l
-  writes : {a w : ℕ} {y : Answer} → y ≡ writeEvent p r l a w .answer → Allowed p r l (write a w) y l
-  waits : {n : ℕ} {y : Answer} {after : List ℕ} → y ≡ waitEvent p r l n .answer → after ≡ waitEvent p r l n .lent .cells → Allowed p r l (wait n) y (lent after)
-  cuts : {debris : List ℕ} {y : Answer} {after : List ℕ} → y ≡ cutEvent p r l debris .answer → after ≡ cutEvent p r l debris .lent .cells
+  reads : (t : Lfts 1) (at : Location) {a : ℕ} {y : Answer}
+      → Read.Learnt t (p, (r, (slice at (l .cells), (a, tt)))) y (p, (r, (slice at (l .cells), (a, tt)))) → Allowed p r l (read a) y l
+  writes : (t : Lfts 1) (at : Location) {a w : ℕ} {y : Answer}
+      → Write.Learnt t (p, (r, (slice at (l .cells), (a, (w, tt))))) y (p, (r, (slice at (l .cells), (a, (w, tt))))) → Allowed p r l (write a w) y l
+  waits : (t : Lfts 1) (at : Location) {n : ℕ} {y : Answer} {after : List ℕ}
+      → Wait.Learnt t (p, (r, (slice at (l .cells), (n, tt)))) y (p, (r, (slice at after, (n, tt)))) → Allowed p r l (wait n) y (lent after)
+  cuts : (t : Lfts 2) (at by : Location) {debris : List ℕ} {y : Answer} {after : List ℕ}
+      → Cut.Learnt t (p, (r, (slice at (l .cells), (slice by debris, tt)))) y (p, (r, (slice at after, (slice by debris, tt))))
       → Allowed p r l (cut debris) y (lent after)
 
 abbrev pub turn : Event → Answer → Turn
@@ -26,3 +41,9 @@ pub data Performed (p : Part) : Device → Lent → List Event → Ran → Type 
   more : {r : Device} {l after : Lent} {e : Event} {es : List Event} {y : Answer} {rest : Ran}
       → Allowed p r l e y after → Performed p (y .device) after es rest
       → Performed p r l (e ∷ es) (record { device = rest .device; lent = rest .lent; turns = turn e y ∷ rest .turns })
+
+-- a run from what `machine::fresh` gives, over any cells
+pub record Runs (p : Part) (start : Lent) (es : List Event) (ran : Ran) : Type 0 where
+  pub first : Device
+  pub begun : Begun first
+  pub performed : Performed p first start es ran

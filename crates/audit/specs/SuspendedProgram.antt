@@ -4,20 +4,18 @@ use mathlib.Core.Path.{_≡_}
 use mathlib.Core.Bool.{Bool, false}
 use mathlib.Core.List.{List}
 use lib.Dec.{eqb}
-use lib.ListN.{length}
 use Rattle.geometry.specs.declared.Part.{Part}
 use Rattle.plain.specs.declared.Device.{Device}
 use Rattle.plain.specs.declared.Answer.{Answer}
 use Rattle.plain.specs.Events.{Event}
 use Rattle.plain.specs.Lent.{Lent}
 use Rattle.plain.specs.Machine.{Ran}
-use Rattle.plain.specs.Record.{fresh}
 use Rattle.plain.specs.SuspendedProgram.{programRests}
 use Rattle.layout.specs.Image.{word}
-use Rattle.layout.specs.Places.{recordWords, operationAt}
-use Rattle.face.specs.Face.{freshImage}
-use Rattle.audit.specs.Performed.{Allowed, Performed}
-use Rattle.audit.specs.Called.{called, wordsAfter}
+use Rattle.layout.specs.Places.{operationAt}
+use Rattle.face.specs.Face.{Faced}
+use Rattle.audit.specs.Performed.{Allowed, Runs}
+use Rattle.audit.specs.Called.{Called, Held, CallRuns}
 
 -- ---- of the public functions
 
@@ -27,7 +25,7 @@ AnswersSuspendNoProgram p =
 
 -- after any run from `machine::fresh`
 abbrev pub RunsSuspendNoProgram : Part → Type 0
-RunsSuspendNoProgram p = (start : Lent) (es : List Event) (ran : Ran) → Performed p fresh start es ran → programRests (ran .device .operation) ≡ false
+RunsSuspendNoProgram p = (start : Lent) (es : List Event) (ran : Ran) → Runs p start es ran → programRests (ran .device .operation) ≡ false
 
 -- ---- through C
 
@@ -38,9 +36,8 @@ saysSuspended i = eqb (word i operationAt) 2
 -- whatever the words, sound or not, and whatever is lent
 abbrev pub CallsSuspendNoProgram : Type 0
 CallsSuspendNoProgram =
-    (part : ℕ) (i cells : List ℕ) (e : Event) → saysSuspended i ≡ false → saysSuspended (called part i cells e .image) ≡ false
+    (part : ℕ) (words cells : List ℕ) (e : Event) (f : Faced) → Called part words cells e f → saysSuspended words ≡ false → saysSuspended (f .image) ≡ false
 
 -- after any run of calls on a record that `k5l_fresh` made
 abbrev pub CallRunsSuspendNoProgram : Type 0
-CallRunsSuspendNoProgram =
-    (part : ℕ) (i cells : List ℕ) (es : List Event) → length i ≡ recordWords → saysSuspended (wordsAfter part (freshImage i) cells es) ≡ false
+CallRunsSuspendNoProgram = (part : ℕ) (start : List ℕ) (es : List Event) (ran : Held) → CallRuns part start es ran → saysSuspended (ran .words) ≡ false

@@ -3,7 +3,7 @@
 ghost use mathlib.Core.Path.{_≡_};
 ghost use Rattle.face.specs.Face.{packed, freshRefusal, freshImage, faceRead, faceWrite, faceWait, faceCut};
 
-mod asked_of;
+pub mod asked_of;
 
 #[no_mangle]
 pub extern "C" fn k5l_fresh(words: &mut [u64]) -> u64

@@ -21,10 +21,10 @@ use Rattle.plain.specs.Lent.{Lent, cellAt}
 use Rattle.plain.specs.Programs.{writes, datum}
 use Rattle.plain.specs.Record.{fresh}
 use Rattle.plain.specs.Sound.{operationSound}
-use Rattle.plain.specs.Cut.{begunBlock, begunProgram, blockDebris, debrisNeeded, blockCut, cutLent}
-use Rattle.plain.specs.Machine.{Outcome, cutTaken, cutEvent, step, run, Fit}
+use Rattle.plain.specs.Cut.{begunBlock, begunProgram, blockDebris, debrisNeeded, blockCut, cutLent, cutDevice}
+use Rattle.plain.specs.Machine.{Outcome, cutEvent, step, run, Fit}
 use Rattle.plain.specs.History.{Fact, Told, holds}
-use Rattle.plain.specs.Promises.{ProgramBegun, EraseBegun, Left, Demand3, Holding, ChargeByHistory}
+use Rattle.plain.specs.Promises.{ProgramBegun, EraseBegun, Left, Demand3, Holding, Agrees, ChargeByHistory}
 use Rattle.plain.proofs.Tools.{by-cases, clash}
 use Rattle.plain.proofs.BegunSound.{program-free, begun-lies}
 use Rattle.plain.proofs.CutCells.{Lies, program-out, program-hit, block-out, block-hit, block-enough, block-size, length-cut, untouched}
@@ -36,12 +36,13 @@ use Rattle.history.proofs.Awake.{fresh-awake, no-run-suspends-program}
 use Rattle.history.proofs.Seen.{seenOp, seen}
 use Rattle.history.proofs.Holds.{Holds}
 use Rattle.history.proofs.Runs.{run-told}
+use Rattle.history.proofs.Taken.{run-long}
 use Rattle.history.proofs.Begun.{program-told, block-told, program-is, block-is, same-program, same-block, block-free, apart}
 
 -- ---- what the cut leaves, given the record
 
 module _ (p : Part) (start : Lent) (fs : List Fact) (r : Device) (l : Lent) (debris : List ℕ) (fit : Fit p r l)
-    (enough : debrisNeeded p (r .operation) ≤ length debris) (awake : Awake (r .operation)) (h : Holds p start fs l) where
+    (long : length (l .cells) ≡ length (start .cells)) (enough : debrisNeeded p (r .operation) ≤ length debris) (awake : Awake (r .operation)) (h : Holds p start fs l) where
   op-sound : operationSound p (r .bits) (r .operation) ≡ true
   op-sound = sound-operation p r (fit .sound) (r .operation) refl
 
@@ -83,7 +84,13 @@ module _ (p : Part) (start : Lent) (fs : List Fact) (r : Device) (l : Lent) (deb
       (λ d e. by-cases (writes d x) (λ t. absurd (outside x d e t (blockOf p x) is refl)) (λ t. t))
       ∙ block-hit p debris l (fit .whole) (begunBlock p (r .operation)) for-block x hx is
 
-  left : Left p start (seen p r fs) r l debris (cutTaken p r l debris)
+  spared : (x : ℕ) → protected (r .bits) (blockOf p x) ≡ true → cellAt (cutLent p (r .operation) debris l) x ≡ cellAt l x
+  spared x e =
+      missed x
+      (λ d f. by-cases (writes d x) (λ t. clash e (ap (protected (r .bits)) (written-in-block p d x t) ∙ program-free p (r .bits) (r .operation) op-sound d f .free)) (λ t. t))
+      (λ b f d. clash e (ap (protected (r .bits)) d ∙ block-free p (r .bits) (r .operation) op-sound b f))
+
+  left : Left p start (seen p r fs) debris (cutDevice r) (cutLent p (r .operation) debris l)
   unfolding Holds
   left =
       record {
@@ -92,36 +99,32 @@ module _ (p : Part) (start : Lent) (fs : List Fact) (r : Device) (l : Lent) (deb
         block = λ x hx g. block-left x hx g;
         one-word = λ x y d e f g t u. one-written p d x y t (ap (λ (w : Written). writes w y) (same-program p (seenOp p (r .operation)) f g) ∙ u);
         one-block = λ b c f g. same-block p (seenOp p (r .operation)) f g;
-        kept = λ x hx e. missed x
-            (λ d f. by-cases (writes d x) (λ t. clash e (ap (protected (r .bits)) (written-in-block p d x t) ∙ program-free p (r .bits) (r .operation) op-sound d f .free)) (λ t. t))
-            (λ b f d. clash e (ap (protected (r .bits)) d ∙ block-free p (r .bits) (r .operation) op-sound b f));
-        size = length-cut p (r .operation) debris l (fit .whole) enough;
-        meter = refl;
-        ppb = refl;
-        dyb = refl;
-        lock = refl;
+        kept = λ x hx e. spared x e ∙ h x hx;
+        size = length-cut p (r .operation) debris l (fit .whole) enough ∙ long;
+        rest = refl;
       }
 
 -- ---- the cut is accepted
 
 module _ (p : Part) (start : Lent) (fs : List Fact) (r : Device) (l : Lent) (debris : List ℕ) where
   Claim : Outcome → Type 0
-  Claim o = o .answer .refusal ≡ Done → Left p start (seen p r fs) r l debris o
+  Claim o = o .answer .refusal ≡ Done → Left p start (seen p r fs) debris (o .answer .device) (o .lent)
 
-  accepted : Awake (r .operation) → Holds p start fs l → Claim (step p r l (cut debris))
+  accepted : Awake (r .operation) → length (l .cells) ≡ length (start .cells) → Holds p start fs l → Claim (step p r l (cut debris))
   unfolding Claim step cutEvent
-  accepted awake h =
+  accepted awake long h =
       by-ladder p r l _ Debris _ Claim (λ s e. let z : _≡_ {A = ℕ} 0 1 = cc in absurd (omega arith)) (λ e. let z : _≡_ {A = ℕ} 0 1 = cc in absurd (omega arith))
       (λ f e. let z : _≡_ {A = ℕ} 0 1 = cc in absurd (omega arith))
-      (λ f t e. left p start fs r l debris f (ltb-false (length debris) (debrisNeeded p (r .operation)) t) awake h)
+      (λ f t e. left p start fs r l debris f long (ltb-false (length debris) (debrisNeeded p (r .operation)) t) awake h)
 
 pub demand-3 : (p : Part) → Demand3 p
 unfolding seenOp Holds holds Claim
 demand-3 p start es debris e =
     let t = run-told p start fresh start [] es fresh-awake in
     let ran = run p fresh start es in
-    subst (λ (h : Told). Left p start h (ran .device) (ran .lent) debris (step p (ran .device) (ran .lent) (cut debris))) (sym (t .tells))
-    (accepted p start (t .facts) (ran .device) (ran .lent) debris (no-run-suspends-program p start es) (t .hold (λ x hx. refl)) e)
+    let o = step p (ran .device) (ran .lent) (cut debris) in
+    subst (λ (h : Told). Left p start h debris (o .answer .device) (o .lent)) (sym (t .tells))
+    (accepted p start (t .facts) (ran .device) (ran .lent) debris (no-run-suspends-program p start es) (run-long p fresh start es) (t .hold (λ x hx. refl)) e)
 
 pub holding : (p : Part) → Holding p
 unfolding seenOp Holds holds
@@ -133,4 +136,4 @@ pub charge-by-history : (p : Part) → ChargeByHistory p
 unfolding seenOp
 charge-by-history p start es =
     let t = run-told p start fresh start [] es fresh-awake in
-    record { clock = sym (ap (λ (h : Told). h .clock) (t .tells)); charge = sym (ap (λ (h : Told). h .charge) (t .tells)) }
+    subst (λ (h : Told). Agrees h (run p fresh start es .device)) (sym (t .tells)) (record { clock = refl; charge = refl; dyb = refl; ppb = refl })

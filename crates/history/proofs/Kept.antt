@@ -12,6 +12,7 @@ use Rattle.plain.specs.Events.{Event, cut}
 use Rattle.plain.specs.Lent.{Lent}
 use Rattle.plain.specs.Record.{fresh}
 use Rattle.plain.specs.Refusals.{number}
+use Rattle.plain.specs.Promises.{NeverState}
 use Rattle.plain.specs.Sound.{sound}
 use Rattle.plain.specs.Cut.{debrisNeeded}
 use Rattle.plain.specs.Machine.{step, run, Fit}
@@ -37,8 +38,7 @@ pub no-run-ends-protected : (p : Part) → NoRunEndsProtected p
 no-run-ends-protected p start es l n =
     never-ends-protected p (run p fresh start es .device) l n (always-sound p start es)
 
--- whatever l comes with the event
-pub never-state : (p : Part) (start : Lent) (es : List Event) (l : Lent) (e : Event) → step p (run p fresh start es .device) l e .answer .refusal ≡ State → ⊥
+pub never-state : (p : Part) → NeverState p
 unfolding number
 never-state p start es l e q =
     let state : never State ≡ true = refl in

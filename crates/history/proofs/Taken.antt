@@ -1,5 +1,4 @@
 -- Demand 3 is about something: after any run of a fresh device a cut with debris enough is accepted, and no shorter one is.
-use Prim.Native.Nat.{ℕ, _<_, _≤_}
 use mathlib.Core.Path.{_≡_, refl, _∙_}
 use mathlib.Core.Bool.{Bool, false}
 use mathlib.Core.List.{List, [], _∷_}
@@ -8,13 +7,14 @@ use borrow.Author.Tests.{ltb-false}
 use Rattle.geometry.specs.declared.Part.{Part}
 use Rattle.geometry.specs.Parts.{wordCount}
 use Rattle.plain.specs.declared.Refusal.{Refusal}
-use Rattle.plain.specs.declared.Refusal.the-variants.{Done, Address, Clock, Debris}
+use Rattle.plain.specs.declared.Refusal.the-variants.{Address, Clock, Debris}
 use Rattle.plain.specs.declared.Device.{Device}
 use Rattle.plain.specs.Events.{Event, read, write, wait, cut}
 use Rattle.plain.specs.Lent.{Lent}
 use Rattle.plain.specs.Record.{fresh}
 use Rattle.plain.specs.Cut.{debrisNeeded}
 use Rattle.plain.specs.Machine.{Outcome, ladder, now, readEvent, writeEvent, waitEvent, cutEvent, step, run, Fit}
+use Rattle.plain.specs.Promises.{CutTaken, CutNotTaken}
 use Rattle.plain.proofs.Facts.{sound-operation}
 use Rattle.plain.proofs.CutCells.{length-cut}
 use Rattle.plain.proofs.Ladder.{by-ladder}
@@ -46,14 +46,11 @@ run-long p r l [] = refl
 run-long p r l (e ∷ es) = run-long p (step p r l e .answer .device) (step p r l e .lent) es ∙ step-long p r l e
 
 -- exactly the lengths that the paper names are refused
-module _ (p : Part) (start : Lent) (es : List Event) (debris : List ℕ) (whole : length (start .cells) ≡ wordCount p) where
-  fit : Fit p (run p fresh start es .device) (run p fresh start es .lent)
-  fit = record { sound = always-sound p start es; whole = run-long p fresh start es ∙ whole }
+fit : (p : Part) (start : Lent) (es : List Event) → length (start .cells) ≡ wordCount p → Fit p (run p fresh start es .device) (run p fresh start es .lent)
+fit p start es whole = record { sound = always-sound p start es; whole = run-long p fresh start es ∙ whole }
 
-  pub cut-taken : debrisNeeded p (run p fresh start es .device .operation) ≤ length debris
-      → step p (run p fresh start es .device) (run p fresh start es .lent) (cut debris) .answer .refusal ≡ Done
-  cut-taken = cut-accepted p (run p fresh start es .device) (run p fresh start es .lent) debris fit
+pub cut-taken : (p : Part) → CutTaken p
+cut-taken p start es debris whole = cut-accepted p (run p fresh start es .device) (run p fresh start es .lent) debris (fit p start es whole)
 
-  pub cut-not-taken : length debris < debrisNeeded p (run p fresh start es .device .operation)
-      → step p (run p fresh start es .device) (run p fresh start es .lent) (cut debris) .answer .refusal ≡ Debris
-  cut-not-taken = cut-refused p (run p fresh start es .device) (run p fresh start es .lent) debris fit
+pub cut-not-taken : (p : Part) → CutNotTaken p
+cut-not-taken p start es debris whole = cut-refused p (run p fresh start es .device) (run p fresh start es .lent) debris (fit p start es whole)

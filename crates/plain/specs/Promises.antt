@@ -1,5 +1,5 @@
 -- Demand 3 and what stands beside it, as statements over every run of a fresh device.
-use Prim.Native.Nat.{ℕ, _-_, _<_}
+use Prim.Native.Nat.{ℕ, _-_, _<_, _≤_}
 use mathlib.Core.Path.{_≡_}
 use mathlib.Core.Bool.{true, false}
 use mathlib.Core.List.{List}
@@ -9,16 +9,20 @@ use Rattle.blocks.specs.Blocks.{emptyOf}
 use Rattle.cells.specs.Bits.{Partly}
 use Rattle.geometry.specs.declared.Part.{Part}
 use Rattle.geometry.specs.Parts.{wordCount, blockOf, firstOf}
-use Rattle.protection.specs.Protection.{protected}
-use Rattle.plain.specs.declared.Refusal.the-variants.{Done}
+use Rattle.protection.specs.Protection.{bits, protectedBy}
+use Rattle.plain.specs.declared.Refusal.{Refusal}
+use Rattle.plain.specs.declared.Refusal.the-variants.{Done, State, Debris}
 use Rattle.plain.specs.declared.Written.{Written}
+use Rattle.plain.specs.declared.Operation.the-variants.{Idle}
+use Rattle.plain.specs.declared.Command.the-variants.{Ground}
 use Rattle.plain.specs.declared.Device.{Device}
+use Rattle.plain.specs.Cut.{debrisNeeded}
 use Rattle.plain.specs.Events.{Event, cut}
 use Rattle.plain.specs.History.{Doing, programs, erases, wipes, rests, programsIn, Told, history, holds}
-use Rattle.plain.specs.Machine.{Outcome, step, run}
+use Rattle.plain.specs.Machine.{step, run}
 use Rattle.plain.specs.Lent.{Lent, cellAt}
 use Rattle.plain.specs.Programs.{writes, datum}
-use Rattle.plain.specs.Record.{fresh}
+use Rattle.plain.specs.Record.{device, fresh}
 
 -- ---- what had begun, by the history
 
@@ -34,29 +38,26 @@ pub data EraseBegun : Doing → (block : ℕ) → Type 0 where
   resting : {l : Blocks} {b g : ℕ} → 0 < g → EraseBegun (rests l b g) b
   around : {d : Written} {pg b g : ℕ} {l : Blocks} → 0 < g → EraseBegun (programsIn d pg l b g) b
 
--- ---- what an accepted cut leaves: h is the history before it, r and l the record and what was lent before it
+-- ---- what an accepted cut leaves: h is the history before it, r and l the record and what is lent after it
 
-pub record Left (p : Part) (start : Lent) (h : Told) (r : Device) (l : Lent) (debris : List ℕ) (o : Outcome) : Type 0 where
+pub record Left (p : Part) (start : Lent) (h : Told) (debris : List ℕ) (r : Device) (l : Lent) : Type 0 where
   -- every word is what the finished programs, erases and earlier cuts gave it, but for
   pub others : (x : ℕ) → x < wordCount p → ((d : Written) → ProgramBegun (h .doing) d → writes d x ≡ false) → (EraseBegun (h .doing) (blockOf p x) → ⊥)
-      → cellAt (o .lent) x ≡ holds p start (h .facts) x
+      → cellAt l x ≡ holds p start (h .facts) x
   -- the word whose program had begun: it gained no bit, and lost none that its program was not to clear
   pub word : (x : ℕ) (d : Written) → x < wordCount p → ProgramBegun (h .doing) d → writes d x ≡ true
-      → Partly (holds p start (h .facts) x) (datum d x) (cellAt (o .lent) x)
+      → Partly (holds p start (h .facts) x) (datum d x) (cellAt l x)
   -- and the block whose erase had begun: it holds the debris, word by word
-  pub block : (x : ℕ) → x < wordCount p → EraseBegun (h .doing) (blockOf p x) → cellAt (o .lent) x ≡ getD debris (x - firstOf p (blockOf p x)) 0
+  pub block : (x : ℕ) → x < wordCount p → EraseBegun (h .doing) (blockOf p x) → cellAt l x ≡ getD debris (x - firstOf p (blockOf p x)) 0
   -- at most one word, and at most one block
   pub one-word : (x y : ℕ) (d e : Written) → ProgramBegun (h .doing) d → ProgramBegun (h .doing) e → writes d x ≡ true → writes e y ≡ true → x ≡ y
   pub one-block : (b c : ℕ) → EraseBegun (h .doing) b → EraseBegun (h .doing) c → b ≡ c
-  -- no word of a block that was protected at that moment is altered
-  pub kept : (x : ℕ) → x < wordCount p → protected (r .bits) (blockOf p x) ≡ true → cellAt (o .lent) x ≡ cellAt l x
-  -- and as many words as before
-  pub size : length (o .lent .cells) ≡ length (l .cells)
-  -- clock, charge and PPBs stand; DYBs and the lock bit are 0
-  pub meter : o .answer .device .meter ≡ r .meter
-  pub ppb : o .answer .device .bits .ppb ≡ r .bits .ppb
-  pub dyb : o .answer .device .bits .dyb ≡ emptyOf
-  pub lock : o .answer .device .bits .lock ≡ false
+  -- no word of a block that was protected at that moment, by the bits that were told of, is altered
+  pub kept : (x : ℕ) → x < wordCount p → protectedBy (h .dyb) (h .ppb) (blockOf p x) ≡ true → cellAt l x ≡ holds p start (h .facts) x
+  -- and as many words as at the start
+  pub size : length (l .cells) ≡ length (start .cells)
+  -- "Then no operation, command or suspension remains, all DYBs and the PPB lock bit are 0, PPBs, clock and charge stand."
+  pub rest : r ≡ device (record { clock = h .clock; charge = h .charge }) Ground Idle (bits emptyOf (h .ppb) false)
 
 -- ---- the promises
 
@@ -66,7 +67,25 @@ Demand3 p =
     (start : Lent) (es : List Event) (debris : List ℕ)
     → let ran = run p fresh start es in
     let o = step p (ran .device) (ran .lent) (cut debris) in
-    o .answer .refusal ≡ Done → Left p start (history p (ran .turns)) (ran .device) (ran .lent) debris o
+    o .answer .refusal ≡ Done → Left p start (history p (ran .turns)) debris (o .answer .device) (o .lent)
+
+-- it is about something: after any run over whole cells a cut with debris enough is accepted, and no shorter one is
+abbrev pub cutAfter : Part → (start : Lent) → List Event → (debris : List ℕ) → Refusal
+cutAfter p start es debris = step p (run p fresh start es .device) (run p fresh start es .lent) (cut debris) .answer .refusal
+
+abbrev pub CutTaken : Part → Type 0
+CutTaken p =
+    (start : Lent) (es : List Event) (debris : List ℕ) → length (start .cells) ≡ wordCount p
+    → debrisNeeded p (run p fresh start es .device .operation) ≤ length debris → cutAfter p start es debris ≡ Done
+
+abbrev pub CutNotTaken : Part → Type 0
+CutNotTaken p =
+    (start : Lent) (es : List Event) (debris : List ℕ) → length (start .cells) ≡ wordCount p
+    → length debris < debrisNeeded p (run p fresh start es .device .operation) → cutAfter p start es debris ≡ Debris
+
+-- no event is answered STATE after any run, whatever is lent with it
+abbrev pub NeverState : Part → Type 0
+NeverState p = (start : Lent) (es : List Event) (l : Lent) (e : Event) → step p (run p fresh start es .device) l e .answer .refusal ≡ State → ⊥
 
 -- at every moment of a run each word holds what the facts say
 abbrev pub Holding : Part → Type 0
@@ -74,10 +93,12 @@ Holding p =
     (start : Lent) (es : List Event) (x : ℕ) → x < wordCount p
     → cellAt (run p fresh start es .lent) x ≡ holds p start (history p (run p fresh start es .turns) .facts) x
 
--- clock and charge are what the history of accepted waits gives
-pub record Metered (p : Part) (start : Lent) (es : List Event) : Type 0 where
-  pub clock : run p fresh start es .device .meter .clock ≡ history p (run p fresh start es .turns) .clock
-  pub charge : run p fresh start es .device .meter .charge ≡ history p (run p fresh start es .turns) .charge
+-- the record's clock and charge are what the history of accepted waits gives, its DYBs and PPBs those that were told of
+pub record Agrees (h : Told) (r : Device) : Type 0 where
+  pub clock : r .meter .clock ≡ h .clock
+  pub charge : r .meter .charge ≡ h .charge
+  pub dyb : r .bits .dyb ≡ h .dyb
+  pub ppb : r .bits .ppb ≡ h .ppb
 
 abbrev pub ChargeByHistory : Part → Type 0
-ChargeByHistory p = (start : Lent) (es : List Event) → Metered p start es
+ChargeByHistory p = (start : Lent) (es : List Event) → Agrees (history p (run p fresh start es .turns)) (run p fresh start es .device)

@@ -1,0 +1,23 @@
+-- The public functions and those of the header ask nothing of a caller.
+use Rattle.audit.specs.Asks.{AsksNothing}
+
+pub asks-nothing : AsksNothing
+asks-nothing = (
+  (λ p r cells debris t a w n. record { fresh = tt; is-sound = tt; read = tt; write = tt; wait = tt; cut = tt; exposed = tt; reads-cells = tt }),
+  (λ part words cells debris t a w n.
+      record {
+        fresh = tt;
+        read = tt;
+        write = tt;
+        wait = tt;
+        cut = tt;
+        sound = tt;
+        exposed-block = tt;
+        exposed-word = tt;
+        reads-cells = tt;
+        clock = tt;
+        charge = tt;
+        first-word = tt;
+        block-words = tt;
+      }),
+)

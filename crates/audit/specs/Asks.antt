@@ -1,0 +1,61 @@
+-- "No function that anyone outside calls has a `requires`": what a caller has to show before a call (`Asked`, the function's `requires`,
+-- whatever they are) is nothing, for all arguments.
+use Prim.Native.Nat.{ℕ}
+use mathlib.Core.List.{List}
+use contract.Lifetimes.{Lfts}
+use denote.Ref.{RefT}
+use Rattle.geometry.specs.declared.Part.{Part}
+use Rattle.plain.specs.declared.Device.{Device}
+use Rattle.machine.proofs.fresh.Reads as Fresh
+use Rattle.machine.proofs.is_sound.Reads as IsSound
+use Rattle.machine.proofs.read.Reads as Read
+use Rattle.machine.proofs.write.Reads as Write
+use Rattle.machine.proofs.wait.Reads as Wait
+use Rattle.machine.proofs.cut.Reads as Cut
+use Rattle.machine.proofs.exposed.Reads as Exposed
+use Rattle.machine.proofs.reads_cells.Reads as ReadsCells
+use Rattle.emulator.proofs.k5l_fresh.Reads as CFresh
+use Rattle.emulator.proofs.k5l_read.Reads as CRead
+use Rattle.emulator.proofs.k5l_write.Reads as CWrite
+use Rattle.emulator.proofs.k5l_wait.Reads as CWait
+use Rattle.emulator.proofs.k5l_cut.Reads as CCut
+use Rattle.emulator.proofs.asked_of.k5l_sound.Reads as CSound
+use Rattle.emulator.proofs.asked_of.k5l_exposed_block.Reads as CExposedBlock
+use Rattle.emulator.proofs.asked_of.k5l_exposed_word.Reads as CExposedWord
+use Rattle.emulator.proofs.asked_of.k5l_reads_cells.Reads as CReadsCells
+use Rattle.emulator.proofs.asked_of.k5l_clock.Reads as CClock
+use Rattle.emulator.proofs.asked_of.k5l_charge.Reads as CCharge
+use Rattle.emulator.proofs.asked_of.k5l_first_word.Reads as CFirstWord
+use Rattle.emulator.proofs.asked_of.k5l_block_words.Reads as CBlockWords
+
+-- the functions of `machine`
+pub record MachineAsks (p : Part) (r : Device) (cells debris : RefT (List ℕ)) (t : Lfts 2) (a w n : ℕ) : Type 0 where
+  pub fresh : Fresh.Asked tt tt
+  pub is-sound : IsSound.Asked tt (p, (r, tt))
+  pub read : Read.Asked (t .0, tt) (p, (r, (cells, (a, tt))))
+  pub write : Write.Asked (t .0, tt) (p, (r, (cells, (a, (w, tt)))))
+  pub wait : Wait.Asked (t .0, tt) (p, (r, (cells, (n, tt))))
+  pub cut : Cut.Asked t (p, (r, (cells, (debris, tt))))
+  pub exposed : Exposed.Asked tt (p, (r, tt))
+  pub reads-cells : ReadsCells.Asked tt (p, (r, (n, tt)))
+
+-- the functions of the header
+pub record HeaderAsks (part : ℕ) (words cells debris : RefT (List ℕ)) (t : Lfts 3) (a w n : ℕ) : Type 0 where
+  pub fresh : CFresh.Asked (t .0, tt) (words, tt)
+  pub read : CRead.Asked (t .0, (t .1 .0, tt)) (part, (words, (cells, (a, tt))))
+  pub write : CWrite.Asked (t .0, (t .1 .0, tt)) (part, (words, (cells, (a, (w, tt)))))
+  pub wait : CWait.Asked (t .0, (t .1 .0, tt)) (part, (words, (cells, (n, tt))))
+  pub cut : CCut.Asked t (part, (words, (cells, (debris, tt))))
+  pub sound : CSound.Asked (t .0, tt) (part, (words, tt))
+  pub exposed-block : CExposedBlock.Asked (t .0, tt) (part, (words, tt))
+  pub exposed-word : CExposedWord.Asked (t .0, tt) (part, (words, tt))
+  pub reads-cells : CReadsCells.Asked (t .0, tt) (part, (words, (n, tt)))
+  pub clock : CClock.Asked (t .0, tt) (part, (words, tt))
+  pub charge : CCharge.Asked (t .0, tt) (part, (words, tt))
+  pub first-word : CFirstWord.Asked tt (part, (n, tt))
+  pub block-words : CBlockWords.Asked tt (part, (n, tt))
+
+abbrev pub AsksNothing : Type 0
+AsksNothing =
+    ((p : Part) (r : Device) (cells debris : RefT (List ℕ)) (t : Lfts 2) (a w n : ℕ) → MachineAsks p r cells debris t a w n)
+    × ((part : ℕ) (words cells debris : RefT (List ℕ)) (t : Lfts 3) (a w n : ℕ) → HeaderAsks part words cells debris t a w n)

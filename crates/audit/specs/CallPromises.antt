@@ -1,0 +1,59 @@
+-- The promises of plain/specs/Promises, through C: for every run of calls of the header's functions on a record that `k5l_fresh` made.
+use Prim.Native.Nat.{ℕ, _<_}
+use mathlib.Core.Path.{_≡_}
+use mathlib.Core.Bool.{true}
+use mathlib.Core.List.{List}
+use lib.ListN.{getD}
+use contract.Lifetimes.{Lfts}
+use Rattle.geometry.specs.Parts.{wordCount}
+use Rattle.plain.specs.declared.Refusal.the-variants.{Done}
+use Rattle.plain.specs.Events.{Event, cut}
+use Rattle.plain.specs.History.{Told, history, holds}
+use Rattle.plain.specs.Lent.{lent}
+use Rattle.plain.specs.Promises.{Left}
+use Rattle.plain.specs.Refusals.{number}
+use Rattle.layout.specs.Image.{deviceOf}
+use Rattle.face.specs.Face.{Faced, partNamed, standsSound}
+use Rattle.emulator.proofs.asked_of.k5l_clock.Reads as Clock
+use Rattle.emulator.proofs.asked_of.k5l_charge.Reads as Charge
+use Rattle.audit.specs.Slices.{Location, slice}
+use Rattle.audit.specs.Called.{Called, Held, CallRuns}
+
+-- the history of a run of calls
+abbrev pub toldOf : (part : ℕ) → Held → Told
+toldOf part ran = history (partNamed part) (ran .turns)
+
+-- demand 3: after a `k5l_cut` that is answered K5L_DONE
+abbrev pub Demand3Calls : Type 0
+Demand3Calls =
+    (part : ℕ) (start debris : List ℕ) (es : List Event) (ran : Held) (f : Faced)
+    → CallRuns part start es ran → Called part (ran .words) (ran .cells) (cut debris) f → f .refusal ≡ number Done
+    → Left (partNamed part) (lent start) (toldOf part ran) debris (deviceOf (f .image)) (lent (f .cells))
+
+-- at every moment of a run each word holds what the facts say
+abbrev pub HoldingCalls : Type 0
+HoldingCalls =
+    (part : ℕ) (start : List ℕ) (es : List Event) (ran : Held) → CallRuns part start es ran → (x : ℕ) → x < wordCount (partNamed part)
+    → getD (ran .cells) x 0 ≡ holds (partNamed part) (lent start) (toldOf part ran .facts) x
+
+-- and what `k5l_clock` and `k5l_charge` answer is what the history of accepted waits gives
+abbrev pub ChargeCalls : Type 0
+ChargeCalls =
+    (part : ℕ) (start : List ℕ) (es : List Event) (ran : Held) (t : Lfts 1) (at : Location) (clock charge : ℕ)
+    → CallRuns part start es ran
+    → Clock.Learnt t (part, (slice at (ran .words), tt)) clock (part, (slice at (ran .words), tt))
+    → Charge.Learnt t (part, (slice at (ran .words), tt)) charge (part, (slice at (ran .words), tt))
+    → (clock ≡ toldOf part ran .clock) × (charge ≡ toldOf part ran .charge)
+
+-- any two results that a call may have are equal
+abbrev pub SameCall : Type 0
+SameCall = (part : ℕ) (words cells : List ℕ) (e : Event) (f g : Faced) → Called part words cells e f → Called part words cells e g → f ≡ g
+
+-- "every event on a sound record leaves a sound one"
+abbrev pub CallsStaySound : Type 0
+CallsStaySound =
+    (part : ℕ) (words cells : List ℕ) (e : Event) (f : Faced) → Called part words cells e f → standsSound part words ≡ true → standsSound part (f .image) ≡ true
+
+-- "Number 12 stays unused."
+abbrev pub CallsNever12 : Type 0
+CallsNever12 = (part : ℕ) (words cells : List ℕ) (e : Event) (f : Faced) → Called part words cells e f → f .refusal ≡ 12 → ⊥

@@ -1,0 +1,57 @@
+-- The promises of plain/specs/Promises, of the public functions: for every answer that their contracts allow.
+use Prim.Native.Nat.{ℕ, _<_}
+use mathlib.Core.Path.{_≡_}
+use mathlib.Core.Bool.{true}
+use mathlib.Core.List.{List}
+use lib.ListN.{length}
+use Rattle.geometry.specs.declared.Part.{Part}
+use Rattle.geometry.specs.Parts.{wordCount, blockOf, bankOf}
+use Rattle.plain.specs.declared.Refusal.the-variants.{Done}
+use Rattle.plain.specs.declared.Place.the-variants.{At}
+use Rattle.plain.specs.declared.Device.{Device}
+use Rattle.plain.specs.declared.Answer.{Answer}
+use Rattle.plain.specs.Events.{Event, read, cut}
+use Rattle.plain.specs.History.{history, holds}
+use Rattle.plain.specs.Lent.{Lent, cellAt}
+use Rattle.plain.specs.Machine.{Ran}
+use Rattle.plain.specs.Promises.{Left, Agrees}
+use Rattle.plain.specs.Record.{answer}
+use Rattle.cutting.specs.declared.begun.Exposed.{Exposed}
+use Rattle.machine.proofs.exposed.Reads as Exposes
+use Rattle.machine.proofs.reads_cells.Reads as Maps
+use Rattle.audit.specs.Performed.{Allowed, Runs}
+
+-- demand 3: after any run from `machine::fresh`, and a cut that is answered DONE
+abbrev pub Demand3Code : Part → Type 0
+Demand3Code p =
+    (start after : Lent) (es : List Event) (debris : List ℕ) (ran : Ran) (y : Answer)
+    → Runs p start es ran → Allowed p (ran .device) (ran .lent) (cut debris) y after → y .refusal ≡ Done
+    → Left p start (history p (ran .turns)) debris (y .device) after
+
+-- at every moment of a run each word holds what the facts say
+abbrev pub HoldingCode : Part → Type 0
+HoldingCode p =
+    (start : Lent) (es : List Event) (ran : Ran) → Runs p start es ran → (x : ℕ) → x < wordCount p
+    → cellAt (ran .lent) x ≡ holds p start (history p (ran .turns) .facts) x
+
+-- clock and charge are what the history of accepted waits gives
+abbrev pub ChargeCode : Part → Type 0
+ChargeCode p = (start : Lent) (es : List Event) (ran : Ran) → Runs p start es ran → Agrees (history p (ran .turns)) (ran .device)
+
+-- "any two results allowed by it can be proved equal": once for all four
+abbrev pub SameAnswer : Part → Type 0
+SameAnswer p =
+    (r : Device) (l one two : Lent) (e : Event) (y z : Answer) → Allowed p r l e y one → Allowed p r l e z two → (y ≡ z) × (one ≡ two)
+
+-- no cut changes a cell outside what `machine::exposed` told of the record, whatever is lent, and refused or not
+abbrev pub Spared : Part → Type 0
+Spared p =
+    (r : Device) (l after : Lent) (debris : List ℕ) (y : Answer) (told : Exposed) (x : ℕ)
+    → Exposes.Learnt tt (p, (r, tt)) told (p, (r, tt)) → Allowed p r l (cut debris) y after
+    → (told .word ≡ At x → ⊥) → ((b : ℕ) → told .block ≡ At b → blockOf p x ≡ b → ⊥) → cellAt after x ≡ cellAt l x
+
+-- where `machine::reads_cells` said yes of a bank, a read there gives the cell and changes nothing
+abbrev pub ReadsCells : Part → Type 0
+ReadsCells p =
+    (r : Device) (l after : Lent) (a : ℕ) (y : Answer) → Maps.Learnt tt (p, (r, (bankOf p a, tt))) true (p, (r, (bankOf p a, tt)))
+    → length (l .cells) ≡ wordCount p → a < wordCount p → Allowed p r l (read a) y after → y ≡ answer Done (cellAt l a) r
