@@ -57,7 +57,7 @@ module _ (p : Part) (r : Device) (l : Lent) (debris : List ℕ) (x : ℕ) (no-wo
       (λ d e. by-cases (writes d x) (λ t. absurd (no-word (ap (λ (y : Exposed). y .word) told ∙ named p (begunProgram p (r .operation)) d x e t))) (λ t. t))
       (λ b e. no-block b (ap (λ (y : Exposed). y .block) told ∙ e))
 
-  sparing-all : cellAt (cutEvent p r l debris .lent) x ≡ cellAt l x
+  pub sparing-all : cellAt (cutEvent p r l debris .lent) x ≡ cellAt l x
   unfolding cutEvent
   sparing-all = by-ladder p r l _ Debris _ Spares (λ _. refl) refl (λ _. refl) (λ f t. sparing f (ltb-false (length debris) (debrisNeeded p (r .operation)) t))
 
@@ -68,7 +68,7 @@ spared p r l after debris y told x is c no-word no-block =
 
 -- ---- where `reads_cells` says so, a read gives the cell and changes nothing
 
-read-cell : (p : Part) (r : Device) (l : Lent) (a : ℕ) → length (l .cells) ≡ wordCount p → a < wordCount p → readsCells p r (bankOf p a) ≡ true
+pub read-cell : (p : Part) (r : Device) (l : Lent) (a : ℕ) → length (l .cells) ≡ wordCount p → a < wordCount p → readsCells p r (bankOf p a) ≡ true
     → readEvent p r l a ≡ outcome (answer Done (cellAt l a) r) l
 unfolding readsCells
 read-cell p r l a whole h e =

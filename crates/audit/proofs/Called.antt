@@ -17,7 +17,8 @@ use Rattle.plain.proofs.Refusals.{twelve-unused}
 use Rattle.plain.proofs.Tools.{both, both-left, both-right, by-cases}
 use Rattle.history.proofs.Kept.{step-sound}
 use Rattle.layout.specs.Image.{imageOf, deviceOf}
-use Rattle.layout.proofs.Round.{Fits, round, well-formed}
+use Rattle.layout.specs.Promises.{Fits}
+use Rattle.layout.proofs.Round.{round, well-formed}
 use Rattle.face.specs.Face.{Faced, answered, isPart, partNamed, stands, standsSound, shown, state, packed, faceRead, faceWrite, faceWait, faceCut}
 use Rattle.face.proofs.Faces.{read-none, read-some, write-none, write-some, wait-none, wait-some, cut-none, cut-some}
 use Rattle.audit.specs.Called.{SixteenBits, Called, reads, writes, waits, cuts}
@@ -35,7 +36,7 @@ module _ (part : ℕ) (i cells : List ℕ) where
   called (wait n) = faceWait part i cells n
   called (cut debris) = faceCut part i cells debris
 
-  called-none : (e : Event) → stands part i ≡ false → called e ≡ state i cells
+  pub called-none : (e : Event) → stands part i ≡ false → called e ≡ state i cells
   unfolding called
   called-none (read a) = read-none part i cells a
   called-none (write a w) = write-none part i cells a w

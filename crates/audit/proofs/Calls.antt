@@ -15,7 +15,8 @@ use Rattle.plain.specs.Refusals.{number}
 use Rattle.plain.proofs.Data.{Short}
 use Rattle.plain.proofs.Tools.{both}
 use Rattle.layout.specs.Image.{imageOf, deviceOf}
-use Rattle.layout.proofs.Round.{Fits, round, well-formed}
+use Rattle.layout.specs.Promises.{Fits}
+use Rattle.layout.proofs.Round.{round, well-formed}
 use Rattle.face.specs.Face.{Faced, isPart, partNamed, stands, shown}
 use Rattle.audit.specs.Called.{Called, Held, held, callTurn, Calls, none, more}
 use Rattle.audit.proofs.Called.{called-is, called-brief, called-some}

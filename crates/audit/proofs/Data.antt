@@ -21,7 +21,7 @@ use Rattle.history.proofs.KeptWrite.{Fine, starts}
 use Rattle.layout.specs.declared.OperationParts.{OperationParts}
 use Rattle.layout.specs.Operations.{suspendedParts, operationParts, operationOf}
 use Rattle.layout.specs.Image.{deviceOf, partsOf}
-use Rattle.layout.proofs.Round.{Fits}
+use Rattle.layout.specs.Promises.{Fits}
 use Rattle.audit.proofs.Numbers.{by-number}
 
 -- ---- by the words for C

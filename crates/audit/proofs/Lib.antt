@@ -9,4 +9,5 @@ pub mod Words
 pub mod Called
 pub mod Calls
 pub mod CallPromises
+pub mod CallAsked
 pub mod SuspendedProgram

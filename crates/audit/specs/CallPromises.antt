@@ -3,17 +3,20 @@ use Prim.Native.Nat.{ℕ, _<_}
 use mathlib.Core.Path.{_≡_}
 use mathlib.Core.Bool.{true}
 use mathlib.Core.List.{List}
-use lib.ListN.{getD}
+use lib.ListN.{length, getD}
 use contract.Lifetimes.{Lfts}
-use Rattle.geometry.specs.Parts.{wordCount}
+use Rattle.geometry.specs.Parts.{wordCount, blockOf, bankOf}
 use Rattle.plain.specs.declared.Refusal.the-variants.{Done}
-use Rattle.plain.specs.Events.{Event, cut}
+use Rattle.plain.specs.Events.{Event, read, cut}
 use Rattle.plain.specs.History.{Told, history, holds}
 use Rattle.plain.specs.Lent.{lent}
 use Rattle.plain.specs.Promises.{Left}
 use Rattle.plain.specs.Refusals.{number}
 use Rattle.layout.specs.Image.{deviceOf}
-use Rattle.face.specs.Face.{Faced, partNamed, standsSound}
+use Rattle.face.specs.Face.{Faced, answered, partNamed, standsSound}
+use Rattle.emulator.proofs.asked_of.k5l_exposed_block.Reads as ExposedBlock
+use Rattle.emulator.proofs.asked_of.k5l_exposed_word.Reads as ExposedWord
+use Rattle.emulator.proofs.asked_of.k5l_reads_cells.Reads as Maps
 use Rattle.emulator.proofs.asked_of.k5l_clock.Reads as Clock
 use Rattle.emulator.proofs.asked_of.k5l_charge.Reads as Charge
 use Rattle.audit.specs.Slices.{Location, slice}
@@ -48,6 +51,22 @@ ChargeCalls =
 -- any two results that a call may have are equal
 abbrev pub SameCall : Type 0
 SameCall = (part : ℕ) (words cells : List ℕ) (e : Event) (f g : Faced) → Called part words cells e f → Called part words cells e g → f ≡ g
+
+-- no cut changes a cell outside what `k5l_exposed_block` and `k5l_exposed_word` told of the words, refused or not
+abbrev pub SparedCalls : Type 0
+SparedCalls =
+    (part : ℕ) (words cells debris : List ℕ) (f : Faced) (t : Lfts 1) (at : Location) (block word x : ℕ)
+    → ExposedBlock.Learnt t (part, (slice at words, tt)) block (part, (slice at words, tt))
+    → ExposedWord.Learnt t (part, (slice at words, tt)) word (part, (slice at words, tt)) → Called part words cells (cut debris) f
+    → (word ≡ x → ⊥) → (block ≡ blockOf (partNamed part) x → ⊥) → getD (f .cells) x 0 ≡ getD cells x 0
+
+-- where `k5l_reads_cells` said yes of a bank, a read there gives the cell and changes nothing
+abbrev pub ReadsCellsCalls : Type 0
+ReadsCellsCalls =
+    (part : ℕ) (words cells : List ℕ) (f : Faced) (t : Lfts 1) (at : Location) (a : ℕ)
+    → Maps.Learnt t (part, (slice at words, (bankOf (partNamed part) a, tt))) true (part, (slice at words, (bankOf (partNamed part) a, tt)))
+    → length cells ≡ wordCount (partNamed part) → a < wordCount (partNamed part) → Called part words cells (read a) f
+    → f ≡ answered (number Done) (getD cells a 0) words cells
 
 -- "every event on a sound record leaves a sound one"
 abbrev pub CallsStaySound : Type 0

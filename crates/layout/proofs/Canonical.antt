@@ -13,6 +13,7 @@ use Rattle.layout.specs.Places.{layoutNumber, recordWords, layoutAt, clo
 use Rattle.layout.specs.Commands.{commandFits}
 use Rattle.layout.specs.Operations.{noErase, noProgram, erases, programs, operationParts, operationOf}
 use Rattle.layout.specs.Image.{commandSection, eraseSection, programSection, operationSection, bitsSection, imageOf, word, wordsFrom, section, unused, commandWordsOf, eraseOf, programOf, partsOf, bitsOf, marked, eraseFits, programFits, operationFits, wellFormed, deviceOf}
+use Rattle.layout.specs.Promises.{OneImage}
 use Rattle.layout.proofs.Words.{section-whole, zeros-are, flag-back, toggles-back}
 use Rattle.layout.proofs.Commands.{command-back}
 use Rattle.layout.proofs.Operations.{back}
@@ -91,7 +92,7 @@ bits-back : (i : List ℕ) → ltb (word i lockAt) 2 ≡ true → bitsSection (b
 unfolding wordsFrom
 bits-back i h = rw (flag-back (word i lockAt) h)
 
-pub canonical : (i : List ℕ) → wellFormed i ≡ true → imageOf (deviceOf i) ≡ i
+pub canonical : OneImage
 unfolding imageOf deviceOf wordsFrom
 canonical i h =
     let f = formed i h in

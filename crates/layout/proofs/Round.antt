@@ -18,13 +18,10 @@ use Rattle.plain.specs.Record.{device, program, erase}
 use Rattle.plain.proofs.Tools.{both}
 use Rattle.layout.specs.Operations.{noErase, noProgram, parts, operationParts, erases, programs, operationOf}
 use Rattle.layout.specs.Image.{flag, toggles, eraseSection, programSection, imageOf, wordsFrom, zeros, marked, eraseFits, programFits, operationFits, wellFormed, deviceOf}
+use Rattle.layout.specs.Promises.{ReadsBack, ImagesStand}
 use Rattle.layout.proofs.Words.{flag-is, flag-fits, toggles-low, toggles-high, toggles-fit}
 use Rattle.layout.proofs.Commands.{command-told}
 use Rattle.layout.proofs.Operations.{told}
-
--- the data of a program is a word of 16 bits, as it is in every record that the code makes
-abbrev pub Fits : Device → Type 0
-Fits r = operationParts (r .operation) .program .writes .word < 65536
 
 -- ---- back again
 
@@ -42,8 +39,7 @@ device-same m p q s = rw (p, q, s)
 bits-round : (b : Protection) → record { dyb = b .dyb; ppb = b .ppb; lock = eqb (flag (b .lock)) 1 } ≡ b
 bits-round b = rw (flag-is (b .lock))
 
--- "Reading an image back gives the record that was written"
-pub round : (r : Device) → Fits r → deviceOf (imageOf r) ≡ r
+pub round : ReadsBack
 unfolding deviceOf imageOf
 round r h =
     let o = operationParts (r .operation) in
@@ -65,7 +61,7 @@ unfolding zeros
 program-fits true q w h = both _ _ (lt-ltb _ _ w) (flag-fits (q .dq6))
 program-fits false q w h = rw h
 
-pub well-formed : (r : Device) → Fits r → wellFormed (imageOf r) ≡ true
+pub well-formed : ImagesStand
 unfolding wellFormed marked operationFits eraseFits programFits imageOf wordsFrom zeros
 well-formed r w =
     let o = operationParts (r .operation) in

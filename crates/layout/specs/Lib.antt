@@ -2,5 +2,6 @@ pub mod Places
 pub mod Commands
 pub mod Operations
 pub mod Image
+pub mod Promises
 pub mod Stored
 pub mod Worked

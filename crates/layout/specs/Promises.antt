@@ -1,0 +1,24 @@
+-- What is stated of a record that C holds as words.
+use Prim.Native.Nat.{ℕ, _<_}
+use mathlib.Core.Path.{_≡_}
+use mathlib.Core.Bool.{true}
+use mathlib.Core.List.{List}
+use Rattle.plain.specs.declared.Device.{Device}
+use Rattle.layout.specs.Operations.{operationParts}
+use Rattle.layout.specs.Image.{imageOf, wellFormed, deviceOf}
+
+-- the data of its program is a word of 16 bits, as it is in every record that the code makes
+abbrev pub Fits : Device → Type 0
+Fits r = operationParts (r .operation) .program .writes .word < 65536
+
+-- a record is read back as it was written
+abbrev pub ReadsBack : Type 0
+ReadsBack = (r : Device) → Fits r → deviceOf (imageOf r) ≡ r
+
+-- and its words stand for a record
+abbrev pub ImagesStand : Type 0
+ImagesStand = (r : Device) → Fits r → wellFormed (imageOf r) ≡ true
+
+-- no other words stand for it
+abbrev pub OneImage : Type 0
+OneImage = (words : List ℕ) → wellFormed words ≡ true → imageOf (deviceOf words) ≡ words
