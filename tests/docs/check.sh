@@ -1,3 +1,4 @@
+# shellcheck shell=sh
 # What the checks of this folder share: a room for their files, complaints, and the words of a document. A check begins with
 # `. tests/docs/check.sh` in the project's root, and ends with `verdict WORDS`.
 export LC_ALL=C
