@@ -51,10 +51,13 @@ function follow(module, name,    p, n, i, c, f, last) {
     if (p[2] == "specs" && p[3] == "declared") {
         for (i = 4; i < n && p[i] !~ /^[A-Z]/; i++);
         declared(c, p[i])
-    } else if (p[3] ~ /^[A-Z]/) {
-        f = "crates/" c "/" p[2] "/" p[3] ".antt"
-        if (p[2] == "specs") whole(f); else stated(f, name)
-    } else {
+        return
+    }
+    f = "crates/" c "/" p[2] "/" p[3] ".antt"
+    if (p[2] == "specs") whole(f)
+    else if (load(f)) { locals(f); stated(f, name) }
+    else {
+        # What callers of a function learn of it is its contract.
         for (i = 3; i <= n; i++) if (p[i] !~ /^[A-Z]/) last = p[i]
         if (!((c, last) in function_in)) lost("the function " last " of " c)
         else contract(function_in[c, last], last)
@@ -99,7 +102,7 @@ function contract(f, name,    i, j, used, p, n) {
     if ((f, name) in seen) return
     seen[f, name]
     i = j = function_at[f, name]
-    while (text[f, j + 1] != "{" && text[f, j] !~ /[{]$/) j++
+    while (text[f, j + 1] !~ /^ *[{]$/ && text[f, j] !~ /[{]$/) j++
     used = lines(f, i, j, "contracts")
     n = split(used, p, " ")
     for (i = 1; i <= n; i++) declared(crate_of(f), p[i])
@@ -142,7 +145,7 @@ function locals(f,    i, line, p) {
     for (i = 1; i <= size[$0]; i++) {
         line = text[$0, i]
         if (line ~ /^pub (struct|enum) /) { split(line, p, /[ {]/); type_in[crate_of($0), p[3]] = $0; type_at[crate_of($0), p[3]] = i }
-        if (line ~ /^pub (extern "C" )?fn /) {
+        if (line ~ /^ *pub (extern "C" )?fn /) {
             name = line; sub(/.*fn /, "", name); sub(/[(].*/, "", name)
             function_in[crate_of($0), name] = $0; function_at[$0, name] = i; public[$0] = public[$0] " " name
         }
