@@ -27,7 +27,7 @@ use Rattle.plain.proofs.Ladder.{by-ladder}
 use Rattle.plain.proofs.Programs.{first-written, one-written}
 use Rattle.plain.proofs.Tools.{by-cases, both-left, both-right}
 use Rattle.cutting.specs.declared.begun.Exposed.{Exposed}
-use Rattle.cutting.specs.Cuttable.{exposedBy}
+use Rattle.cutting.specs.Exposes.{exposedBy}
 use Rattle.mapping.specs.Mapped.{givesCells}
 use Rattle.mapping.proofs.GivesCells.{gives-cells}
 use Rattle.judged.specs.Asked.{exposedNow, readsCells}

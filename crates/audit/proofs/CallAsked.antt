@@ -1,20 +1,18 @@
 -- What `k5l_exposed_block`, `k5l_exposed_word` and `k5l_reads_cells` tell is so.
-use Prim.Native.Nat.{ℕ}
-use mathlib.Core.Path.{_≡_, refl, sym, ap, _∙_}
+use mathlib.Core.Path.{_≡_, sym, ap, _∙_}
 use mathlib.Core.Bool.{true}
 use lib.Dec.{ltb}
 use lib.ListN.{getD}
 use Rattle.geometry.specs.Parts.{bankCount, bankOf}
-use Rattle.plain.specs.declared.Place.{Place}
 use Rattle.plain.specs.Events.{read, cut}
 use Rattle.plain.specs.Lent.{lent}
-use Rattle.plain.specs.Machine.{Outcome, step}
+use Rattle.plain.specs.Machine.{step}
 use Rattle.plain.proofs.Tools.{by-cases, both-left, both-right}
-use Rattle.layout.specs.Image.{imageOf, deviceOf}
+use Rattle.layout.specs.Image.{deviceOf}
 use Rattle.layout.proofs.Canonical.{canonical}
 use Rattle.face.specs.Face.{Faced, partNamed, stands, shown, placeNumber}
 use Rattle.face.proofs.Faces.{well}
-use Rattle.judged.specs.Asked.{exposedNow, readsCells}
+use Rattle.judged.specs.Asked.{exposedNow}
 use Rattle.asked.specs.Asked.{faceExposedBlock, faceExposedWord, faceReadsCells}
 use Rattle.audit.specs.CallPromises.{SparedCalls, ReadsCellsCalls}
 use Rattle.audit.proofs.Asked.{sparing-all, read-cell}

@@ -1,4 +1,4 @@
--- What a cut is lent, and what it would change.
+-- What a cut that is taken is lent.
 use Prim.Native.Nat.{ℕ, _≤_}
 use mathlib.Core.Path.{_≡_}
 use mathlib.Core.List.{List}
@@ -6,16 +6,11 @@ use lib.ListN.{length}
 use Rattle.geometry.specs.declared.Part.{Part}
 use Rattle.geometry.specs.Parts.{wordCount}
 use Rattle.plain.specs.declared.Operation.{Operation}
-use Rattle.plain.specs.Cut.{begunBlock, begunProgram, wordOf, debrisNeeded}
+use Rattle.plain.specs.Cut.{begunProgram, debrisNeeded}
 use Rattle.plain.proofs.CutCells.{Lies}
-use Rattle.cutting.specs.declared.begun.Exposed.{Exposed}
 
 -- the part's words, debris enough, and an operation whose begun program lies in the part
 pub record Cuttable (p : Part) (o : Operation) (cells debris : List ℕ) : Type 0 where
   pub whole : length cells ≡ wordCount p
   pub enough : debrisNeeded p o ≤ length debris
   pub inside : Lies p (begunProgram p o)
-
--- the block and the word that a cut would change if it came now
-abbrev pub exposedBy : Part → Operation → Exposed
-exposedBy p o = record { block = begunBlock p o; word = wordOf (begunProgram p o) }

@@ -1,1 +1,2 @@
+pub mod Exposes
 pub mod Cuttable

@@ -7,7 +7,7 @@ use Rattle.plain.specs.declared.Device.{Device}
 use Rattle.plain.specs.Choice.{if_then_else_}
 use Rattle.plain.specs.Sound.{sound}
 use Rattle.cutting.specs.declared.begun.Exposed.{Exposed}
-use Rattle.cutting.specs.Cuttable.{exposedBy}
+use Rattle.cutting.specs.Exposes.{exposedBy}
 use Rattle.mapping.specs.Mapped.{givesCells}
 
 -- ---- "when the pack runs flat during a firmware update, which words of the flash may have changed"

@@ -11,7 +11,6 @@ use Rattle.plain.specs.declared.Program.{Program}
 use Rattle.plain.specs.declared.Erase.{Erase}
 use Rattle.plain.specs.declared.Operation.{Operation}
 use Rattle.plain.specs.declared.Command.{Command}
-use Rattle.plain.specs.declared.Device.{Device}
 use Rattle.plain.specs.Choice.{if_then_else_}
 use Rattle.plain.specs.Programs.{writing}
 use Rattle.plain.specs.Record.{device, program, erase}
