@@ -19,5 +19,11 @@ asks-nothing = (
         charge = tt;
         first-word = tt;
         block-words = tt;
+        small-refusal = tt;
+        small-block = tt;
+        small-bank = tt;
+        full-refusal = tt;
+        full-block = tt;
+        full-bank = tt;
       }),
 )

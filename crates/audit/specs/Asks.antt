@@ -5,6 +5,12 @@ use mathlib.Core.List.{List}
 use contract.Lifetimes.{Lfts}
 use denote.Ref.{RefT}
 use Rattle.geometry.specs.declared.Part.{Part}
+use Rattle.geometry.proofs.asked.k5l_small_refusal.Reads as SmallRefusal
+use Rattle.geometry.proofs.asked.k5l_small_block.Reads as SmallBlock
+use Rattle.geometry.proofs.asked.k5l_small_bank.Reads as SmallBank
+use Rattle.geometry.proofs.asked.k5l_full_refusal.Reads as FullRefusal
+use Rattle.geometry.proofs.asked.k5l_full_block.Reads as FullBlock
+use Rattle.geometry.proofs.asked.k5l_full_bank.Reads as FullBank
 use Rattle.plain.specs.declared.Device.{Device}
 use Rattle.machine.proofs.fresh.Reads as Fresh
 use Rattle.machine.proofs.is_sound.Reads as IsSound
@@ -54,6 +60,12 @@ pub record HeaderAsks (part : ℕ) (words cells debris : RefT (List ℕ)) (t : L
   pub charge : CCharge.Asked (t .0, tt) (part, (words, tt))
   pub first-word : CFirstWord.Asked tt (part, (n, tt))
   pub block-words : CBlockWords.Asked tt (part, (n, tt))
+  pub small-refusal : SmallRefusal.Asked tt (a, tt)
+  pub small-block : SmallBlock.Asked tt (a, tt)
+  pub small-bank : SmallBank.Asked tt (a, tt)
+  pub full-refusal : FullRefusal.Asked tt (a, tt)
+  pub full-block : FullBlock.Asked tt (a, tt)
+  pub full-bank : FullBank.Asked tt (a, tt)
 
 abbrev pub AsksNothing : Type 0
 AsksNothing =

@@ -8,42 +8,42 @@ use crate::Part;
 pub extern "C" fn k5l_small_refusal(address: usize) -> usize
     ensures { λ r. ⌜ r ≡ refusalAsked Small address ⌝ }
 {
-    refusal_asked(Part::Small, address)
+    refusal_asked(Part::small(), address)
 }
 
 #[no_mangle]
 pub extern "C" fn k5l_small_block(address: usize) -> usize
     ensures { λ r. ⌜ r ≡ blockAsked Small address ⌝ }
 {
-    block_asked(Part::Small, address)
+    block_asked(Part::small(), address)
 }
 
 #[no_mangle]
 pub extern "C" fn k5l_small_bank(address: usize) -> usize
     ensures { λ r. ⌜ r ≡ bankAsked Small address ⌝ }
 {
-    bank_asked(Part::Small, address)
+    bank_asked(Part::small(), address)
 }
 
 #[no_mangle]
 pub extern "C" fn k5l_full_refusal(address: usize) -> usize
     ensures { λ r. ⌜ r ≡ refusalAsked Full address ⌝ }
 {
-    refusal_asked(Part::Full, address)
+    refusal_asked(Part::full(), address)
 }
 
 #[no_mangle]
 pub extern "C" fn k5l_full_block(address: usize) -> usize
     ensures { λ r. ⌜ r ≡ blockAsked Full address ⌝ }
 {
-    block_asked(Part::Full, address)
+    block_asked(Part::full(), address)
 }
 
 #[no_mangle]
 pub extern "C" fn k5l_full_bank(address: usize) -> usize
     ensures { λ r. ⌜ r ≡ bankAsked Full address ⌝ }
 {
-    bank_asked(Part::Full, address)
+    bank_asked(Part::full(), address)
 }
 
 fn refusal_asked(part: Part, address: usize) -> usize

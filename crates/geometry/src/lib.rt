@@ -4,12 +4,8 @@ ghost use Prim.Native.Nat.{_*_, _/_};
 ghost use Rattle.geometry.specs.declared.Part.the-variants.{Small, Full};
 ghost use Rattle.geometry.specs.Parts.{wordCount, blockCount, bankCount, unitOf, blockOf, bankOf, firstOf, sizeOf, bankOfBlock};
 
-mod asked;
-mod parts;
+pub mod asked;
 mod runs;
-
-use parts::FullPart;
-use parts::SmallPart;
 
 // One of the two parts: there is no other value.
 pub enum Part {
@@ -18,6 +14,36 @@ pub enum Part {
 }
 
 impl Part {
+    // What the small part owns: its counts, its block sizes, and the first words and the first blocks of its banks.
+    pub const SMALL_WORDS: usize = 16384;
+
+    pub const SMALL_BLOCKS: usize = 270;
+
+    pub const SMALL_BANKS: usize = 4;
+
+    pub const SMALL_BOOT_BLOCK: usize = 8;
+
+    pub const SMALL_MAIN_BLOCK: usize = 64;
+
+    pub const SMALL_BANK_WORDS: [usize; 4] = [0, 2048, 8192, 14336];
+
+    pub const SMALL_BANK_BLOCKS: [usize; 4] = [0, 39, 135, 231];
+
+    // What the die owns.
+    pub const FULL_WORDS: usize = 8388608;
+
+    pub const FULL_BLOCKS: usize = 270;
+
+    pub const FULL_BANKS: usize = 4;
+
+    pub const FULL_BOOT_BLOCK: usize = 4096;
+
+    pub const FULL_MAIN_BLOCK: usize = 32768;
+
+    pub const FULL_BANK_WORDS: [usize; 4] = [0, 1048576, 4194304, 7340032];
+
+    pub const FULL_BANK_BLOCKS: [usize; 4] = [0, 39, 135, 231];
+
     pub fn small() -> Self
         ensures { λ r. ⌜ r ≡ Small ⌝ }
     {
@@ -35,8 +61,8 @@ impl Part {
     {
         let part = self;
         match part {
-            Part::Small => SmallPart::WORDS,
-            Part::Full => FullPart::WORDS,
+            Part::Small => Part::SMALL_WORDS,
+            Part::Full => Part::FULL_WORDS,
         }
     }
 
@@ -45,8 +71,8 @@ impl Part {
     {
         let part = self;
         match part {
-            Part::Small => SmallPart::BLOCKS,
-            Part::Full => FullPart::BLOCKS,
+            Part::Small => Part::SMALL_BLOCKS,
+            Part::Full => Part::FULL_BLOCKS,
         }
     }
 
@@ -55,8 +81,8 @@ impl Part {
     {
         let part = self;
         match part {
-            Part::Small => SmallPart::BANKS,
-            Part::Full => FullPart::BANKS,
+            Part::Small => Part::SMALL_BANKS,
+            Part::Full => Part::FULL_BANKS,
         }
     }
 
@@ -72,8 +98,8 @@ impl Part {
     {
         let part = self;
         match part {
-            Part::Small => parts::bank_by(SmallPart::BANK_WORDS, address),
-            Part::Full => parts::bank_by(FullPart::BANK_WORDS, address),
+            Part::Small => runs::bank_by(Part::SMALL_BANK_WORDS, address),
+            Part::Full => runs::bank_by(Part::FULL_BANK_WORDS, address),
         }
     }
 
@@ -82,8 +108,8 @@ impl Part {
     {
         let part = self;
         match part {
-            Part::Small => parts::bank_by(SmallPart::BANK_BLOCKS, block),
-            Part::Full => parts::bank_by(FullPart::BANK_BLOCKS, block),
+            Part::Small => runs::bank_by(Part::SMALL_BANK_BLOCKS, block),
+            Part::Full => runs::bank_by(Part::FULL_BANK_BLOCKS, block),
         }
     }
 
@@ -94,8 +120,8 @@ impl Part {
         let units = runs::first_in(block);
         let part = self;
         match part {
-            Part::Small => SmallPart::BOOT_BLOCK * units,
-            Part::Full => FullPart::BOOT_BLOCK * units,
+            Part::Small => Part::SMALL_BOOT_BLOCK * units,
+            Part::Full => Part::FULL_BOOT_BLOCK * units,
         }
     }
 
@@ -105,8 +131,8 @@ impl Part {
     {
         let part = self;
         match part {
-            Part::Small => parts::size_by(SmallPart::BOOT_BLOCK, SmallPart::MAIN_BLOCK, block),
-            Part::Full => parts::size_by(FullPart::BOOT_BLOCK, FullPart::MAIN_BLOCK, block),
+            Part::Small => runs::size_by(Part::SMALL_BOOT_BLOCK, Part::SMALL_MAIN_BLOCK, block),
+            Part::Full => runs::size_by(Part::FULL_BOOT_BLOCK, Part::FULL_MAIN_BLOCK, block),
         }
     }
 
@@ -116,8 +142,8 @@ impl Part {
     {
         let part = self;
         match part {
-            Part::Small => address / SmallPart::BOOT_BLOCK,
-            Part::Full => address / FullPart::BOOT_BLOCK,
+            Part::Small => address / Part::SMALL_BOOT_BLOCK,
+            Part::Full => address / Part::FULL_BOOT_BLOCK,
         }
     }
 }

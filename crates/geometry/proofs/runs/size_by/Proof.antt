@@ -1,7 +1,7 @@
 use borrow.Author.Tests.{lt-ltb, le-ltb}
 use Rattle.geometry.specs.Runs.{sizeBy}
-use Rattle.geometry.proofs.parts.size_by.Statement.{statement}
-use Rattle.geometry.proofs.parts.size_by.Tie as tie
+use Rattle.geometry.proofs.runs.size_by.Statement.{statement}
+use Rattle.geometry.proofs.runs.size_by.Tie as tie
 
 pub size-by-spec : {M : Type 1} → statement M
 unfolding sizeBy

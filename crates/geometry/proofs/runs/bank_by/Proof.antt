@@ -1,8 +1,8 @@
 use borrow.Author.Tests.{lt-ltb, le-ltb}
 use borrow.Author.Needs.{needs}
 use Rattle.geometry.specs.Runs.{bankBy}
-use Rattle.geometry.proofs.parts.bank_by.Statement.{statement}
-use Rattle.geometry.proofs.parts.bank_by.Tie as tie
+use Rattle.geometry.proofs.runs.bank_by.Statement.{statement}
+use Rattle.geometry.proofs.runs.bank_by.Tie as tie
 
 pub bank-by-spec : {M : Type 1} → statement M
 unfolding bankBy
