@@ -6,22 +6,24 @@ use mathlib.Core.List.{List, []}
 use native.Mathlib.Omega.{arith}
 use lib.Dec.{eqb, lit<}
 use lib.ListN.{length}
-use Rattle.plain.specs.declared.Refusal.the-variants.{Done}
+use Rattle.plain.specs.declared.Refusal.the-variants.{Done, State}
 use Rattle.plain.specs.Events.{Event, cut}
 use Rattle.plain.specs.Lent.{lent}
-use Rattle.plain.specs.Machine.{step, run}
+use Rattle.plain.specs.Machine.{Ran, step, run}
 use Rattle.plain.specs.Record.{fresh}
 use Rattle.plain.specs.Refusals.{number}
 use Rattle.plain.proofs.Data.{Short, dataOf}
 use Rattle.plain.proofs.Tools.{by-cases}
 use Rattle.history.proofs.Demand.{demand-3, holding, charge-by-history}
-use Rattle.history.proofs.Kept.{always-sound}
+use Rattle.history.proofs.Kept.{always-sound, never-state}
+use Rattle.history.proofs.Taken.{cut-taken, cut-not-taken}
 use Rattle.layout.specs.Image.{imageOf, deviceOf}
 use Rattle.layout.specs.Places.{recordWords}
+use Rattle.layout.specs.Promises.{Fits}
 use Rattle.layout.proofs.Round.{round}
 use Rattle.face.specs.Face.{Faced, partNamed, standsSound, faceClock, faceCharge, shown}
-use Rattle.audit.specs.Called.{Made, made, Held, CallRuns}
-use Rattle.audit.specs.CallPromises.{Demand3Calls, HoldingCalls, ChargeCalls}
+use Rattle.audit.specs.Called.{Made, made, Called, Held, CallRuns}
+use Rattle.audit.specs.CallPromises.{Demand3Calls, CutTakenCalls, NeverStateCalls, HoldingCalls, ChargeCalls}
 use Rattle.audit.proofs.Called.{left-stands}
 use Rattle.audit.proofs.Calls.{RanAs, calls-are, on-words, same-refusal}
 use Rattle.audit.proofs.Data.{short-fits, step-short, cut-brief}
@@ -40,20 +42,48 @@ fresh-short = lit< tt
 pub runs-are : {part : ℕ} {start : List ℕ} {es : List Event} {ran : Held} → (f : CallRuns part start es ran) → RanAs part (f .known) fresh start es ran
 runs-are {part} {start} {es} {ran} f = calls-are part (f .known) fresh (f .first) start start es ran (made-fresh (f .made)) refl fresh-short (f .calls)
 
+-- the words after a run of calls are those of the plain machine's record, and a call on them answers as it does
+module _ {part : ℕ} {start : List ℕ} {es : List Event} {ran : Held} (runs : CallRuns part start es ran) where
+  abbrev was : Ran
+  was = run (partNamed part) fresh (lent start) es
+
+  fits : Fits (was .device)
+  fits = short-fits (was .device) (runs-are runs .short)
+
+  words : ran .words ≡ imageOf (was .device)
+  words = ap (λ (h : Held). h .words) (runs-are runs .same)
+
+  stands-for : deviceOf (ran .words) ≡ was .device
+  stands-for = ap deviceOf words ∙ round (was .device) fits
+
+  next : (cells now : List ℕ) (e : Event) (f : Faced) → cells ≡ now → Called part (ran .words) cells e f → f ≡ shown (step (partNamed part) (was .device) (lent now) e)
+  next cells now e f c = on-words part (runs .known) (was .device) (ran .words) cells now e f words c fits
+
+  cut-next : (debris : List ℕ) (f : Faced) → Called part (ran .words) (ran .cells) (cut debris) f → f ≡ shown (step (partNamed part) (was .device) (was .lent) (cut debris))
+  cut-next debris f = next (ran .cells) (was .lent .cells) (cut debris) f (ap (λ (h : Held). h .cells) (runs-are runs .same))
+
 pub demand-3-calls : Demand3Calls
 demand-3-calls part start debris es ran f runs c e =
     let p = partNamed part in
-    let was = run p fresh (lent start) es in
-    let o = step p (was .device) (was .lent) (cut debris) in
-    let is = runs-are runs in
-    let words : ran .words ≡ imageOf (was .device) = ap (λ (h : Held). h .words) (is .same) in
-    let cells : ran .cells ≡ was .lent .cells = ap (λ (h : Held). h .cells) (is .same) in
-    let turns : ran .turns ≡ was .turns = ap (λ (h : Held). h .turns) (is .same) in
-    let s : f ≡ shown o = on-words part (runs .known) (was .device) (ran .words) (ran .cells) (was .lent .cells) (cut debris) f words cells (short-fits (was .device) (is .short)) c in
+    let o = step p (was runs .device) (was runs .lent) (cut debris) in
+    let s = cut-next runs debris f c in
+    let turns : ran .turns ≡ was runs .turns = ap (λ (h : Held). h .turns) (runs-are runs .same) in
     let taken : o .answer .refusal ≡ Done = same-refusal (o .answer .refusal) Done (ap (λ (x : Faced). x .refusal) (sym s) ∙ e) in
-    let back : deviceOf (imageOf (o .answer .device)) ≡ o .answer .device =
-    round (o .answer .device) (short-fits (o .answer .device) (step-short p (was .device) (was .lent) (is .short) (cut debris) (cut-brief debris))) in
-    rw (s, turns, back) (demand-3 p (lent start) es debris taken)
+    let short = step-short p (was runs .device) (was runs .lent) (runs-are runs .short) (cut debris) (cut-brief debris) in
+    rw (s, turns, round (o .answer .device) (short-fits (o .answer .device) short)) (demand-3 p (lent start) es debris taken)
+
+pub cut-taken-calls : CutTakenCalls
+cut-taken-calls part start debris es ran f runs c whole =
+    let p = partNamed part in
+    let s = cut-next runs debris f c in
+    rw (s, stands-for runs)
+    ((λ h. ap number (cut-taken p (lent start) es debris whole h)), (λ h. ap number (cut-not-taken p (lent start) es debris whole h)))
+
+pub never-state-calls : NeverStateCalls
+never-state-calls part start cells es ran e f runs c h =
+    let p = partNamed part in
+    let s = next runs cells cells e f refl c in
+    never-state p (lent start) es (lent cells) e (same-refusal _ State (ap (λ (x : Faced). x .refusal) (sym s) ∙ h))
 
 pub holding-calls : HoldingCalls
 holding-calls part start es ran runs x hx = rw (runs-are runs .same) (holding (partNamed part) (lent start) es x hx)
@@ -61,10 +91,7 @@ holding-calls part start es ran runs x hx = rw (runs-are runs .same) (holding (p
 pub charge-calls : ChargeCalls
 unfolding faceClock faceCharge
 charge-calls part start es ran t at clock charge runs c q =
-    let p = partNamed part in
-    let was = run p fresh (lent start) es in
-    let is = runs-are runs in
-    let fits = short-fits (was .device) (is .short) in
-    let stands : standsSound part (imageOf (was .device)) ≡ true = left-stands part [] [] (was .device) (runs .known) fits (always-sound p (lent start) es) in
-    let agrees = charge-by-history p (lent start) es in
-    rw (c, q, is .same, stands, round (was .device) fits) (agrees .clock, agrees .charge)
+    let r = was runs .device in
+    let stands : standsSound part (imageOf r) ≡ true = left-stands part [] [] r (runs .known) (fits runs) (always-sound (partNamed part) (lent start) es) in
+    let agrees = charge-by-history (partNamed part) (lent start) es in
+    rw (c, q, runs-are runs .same, stands, round r (fits runs)) (agrees .clock, agrees .charge)

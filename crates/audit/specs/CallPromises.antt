@@ -1,12 +1,13 @@
 -- The promises of plain/specs/Promises, through C: for every run of calls of the header's functions on a record that `k5l_fresh` made.
-use Prim.Native.Nat.{ℕ, _<_}
+use Prim.Native.Nat.{ℕ, _<_, _≤_}
 use mathlib.Core.Path.{_≡_}
 use mathlib.Core.Bool.{true}
 use mathlib.Core.List.{List}
 use lib.ListN.{length, getD}
 use contract.Lifetimes.{Lfts}
 use Rattle.geometry.specs.Parts.{wordCount, blockOf, bankOf}
-use Rattle.plain.specs.declared.Refusal.the-variants.{Done}
+use Rattle.plain.specs.declared.Refusal.the-variants.{Done, State, Debris}
+use Rattle.plain.specs.Cut.{debrisNeeded}
 use Rattle.plain.specs.Events.{Event, read, cut}
 use Rattle.plain.specs.History.{Told, history, holds}
 use Rattle.plain.specs.Lent.{lent}
@@ -32,6 +33,20 @@ Demand3Calls =
     (part : ℕ) (start debris : List ℕ) (es : List Event) (ran : Held) (f : Faced)
     → CallRuns part start es ran → Called part (ran .words) (ran .cells) (cut debris) f → f .refusal ≡ number Done
     → Left (partNamed part) (lent start) (toldOf part ran) debris (deviceOf (f .image)) (lent (f .cells))
+
+-- it is about something: over whole cells a `k5l_cut` with debris enough is answered K5L_DONE, and a shorter one K5L_DEBRIS
+abbrev pub CutTakenCalls : Type 0
+CutTakenCalls =
+    (part : ℕ) (start debris : List ℕ) (es : List Event) (ran : Held) (f : Faced)
+    → CallRuns part start es ran → Called part (ran .words) (ran .cells) (cut debris) f → length start ≡ wordCount (partNamed part)
+    → let needed = debrisNeeded (partNamed part) (deviceOf (ran .words) .operation) in
+    (needed ≤ length debris → f .refusal ≡ number Done) × (length debris < needed → f .refusal ≡ number Debris)
+
+-- no call is answered K5L_STATE after any run, whatever cells are lent with it
+abbrev pub NeverStateCalls : Type 0
+NeverStateCalls =
+    (part : ℕ) (start cells : List ℕ) (es : List Event) (ran : Held) (e : Event) (f : Faced)
+    → CallRuns part start es ran → Called part (ran .words) cells e f → f .refusal ≡ number State → ⊥
 
 -- at every moment of a run each word holds what the facts say
 abbrev pub HoldingCalls : Type 0
