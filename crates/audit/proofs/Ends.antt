@@ -18,7 +18,7 @@ use Rattle.plain.proofs.Ladder.{entry-state}
 use Rattle.plain.proofs.Tools.{by-cases}
 use Rattle.history.proofs.Kept.{step-sound, no-run-ends-protected}
 use Rattle.audit.specs.Performed.{Allowed}
-use Rattle.audit.specs.Ends.{WaitsSpareProtected, RunsSpareProtected, AnswersStaySound}
+use Rattle.audit.specs.Promises.{WaitsSpareProtected, RunsSpareProtected, AnswersStaySound}
 use Rattle.audit.proofs.Same.{allowed-is, runs-are}
 
 -- a wait that is taken was of a sound record

@@ -25,7 +25,8 @@ use Rattle.layout.specs.Operations.{suspendedParts, operationParts}
 use Rattle.layout.specs.Image.{imageOf, deviceOf, partsOf}
 use Rattle.face.specs.Face.{partNamed}
 use Rattle.audit.specs.Called.{Held, Calls, none, more}
-use Rattle.audit.specs.SuspendedProgram.{AnswersSuspendNoProgram, RunsSuspendNoProgram, saysSuspended, CallsSuspendNoProgram, CallRunsSuspendNoProgram}
+use Rattle.audit.specs.Promises.{AnswersSuspendNoProgram, RunsSuspendNoProgram}
+use Rattle.audit.specs.CallPromises.{saysSuspended, CallsSuspendNoProgram, CallRunsSuspendNoProgram}
 use Rattle.audit.proofs.Numbers.{by-number}
 use Rattle.audit.proofs.Called.{called, by-standing, called-is}
 use Rattle.audit.proofs.CallPromises.{made-fresh}

@@ -1,8 +1,9 @@
 -- The promises of plain/specs/Promises, through C: for every run of calls of the header's functions on a record that `k5l_fresh` made.
 use Prim.Native.Nat.{ℕ, _<_, _≤_}
 use mathlib.Core.Path.{_≡_}
-use mathlib.Core.Bool.{true}
+use mathlib.Core.Bool.{Bool, true, false}
 use mathlib.Core.List.{List}
+use lib.Dec.{eqb}
 use lib.ListN.{length, getD}
 use contract.Lifetimes.{Lfts}
 use Rattle.geometry.specs.Parts.{wordCount, blockOf, bankOf}
@@ -13,7 +14,8 @@ use Rattle.plain.specs.History.{Told, history, holds}
 use Rattle.plain.specs.Lent.{lent}
 use Rattle.plain.specs.Promises.{Left}
 use Rattle.plain.specs.Refusals.{number}
-use Rattle.layout.specs.Image.{deviceOf}
+use Rattle.layout.specs.Image.{word, deviceOf}
+use Rattle.layout.specs.Places.{operationAt}
 use Rattle.face.specs.Face.{Faced, answered, partNamed, standsSound}
 use Rattle.emulator.proofs.asked_of.k5l_exposed_block.Reads as ExposedBlock
 use Rattle.emulator.proofs.asked_of.k5l_exposed_word.Reads as ExposedWord
@@ -83,6 +85,8 @@ ReadsCellsCalls =
     → length cells ≡ wordCount (partNamed part) → a < wordCount (partNamed part) → Called part words cells (read a) f
     → f ≡ answered (number Done) (getD cells a 0) words cells
 
+-- ---- what cannot happen (plain/specs/Ends, SuspendedProgram)
+
 -- "every event on a sound record leaves a sound one"
 abbrev pub CallsStaySound : Type 0
 CallsStaySound =
@@ -91,3 +95,16 @@ CallsStaySound =
 -- "Number 12 stays unused."
 abbrev pub CallsNever12 : Type 0
 CallsNever12 = (part : ℕ) (words cells : List ℕ) (e : Event) (f : Faced) → Called part words cells e f → f .refusal ≡ 12 → ⊥
+
+-- word 5 of a record: "2 suspended program"
+abbrev pub saysSuspended : (words : List ℕ) → Bool
+saysSuspended i = eqb (word i operationAt) 2
+
+-- whatever the words, sound or not, and whatever is lent
+abbrev pub CallsSuspendNoProgram : Type 0
+CallsSuspendNoProgram =
+    (part : ℕ) (words cells : List ℕ) (e : Event) (f : Faced) → Called part words cells e f → saysSuspended words ≡ false → saysSuspended (f .image) ≡ false
+
+-- after any run of calls on a record that `k5l_fresh` made
+abbrev pub CallRunsSuspendNoProgram : Type 0
+CallRunsSuspendNoProgram = (part : ℕ) (start : List ℕ) (es : List Event) (ran : Held) → CallRuns part start es ran → saysSuspended (ran .words) ≡ false

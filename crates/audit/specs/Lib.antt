@@ -4,5 +4,3 @@ pub mod Performed
 pub mod Promises
 pub mod Called
 pub mod CallPromises
-pub mod Ends
-pub mod SuspendedProgram

@@ -1,7 +1,7 @@
 -- The promises of plain/specs/Promises, of the public functions: for every answer that their contracts allow.
 use Prim.Native.Nat.{ℕ, _<_}
 use mathlib.Core.Path.{_≡_}
-use mathlib.Core.Bool.{true}
+use mathlib.Core.Bool.{true, false}
 use mathlib.Core.List.{List}
 use lib.ListN.{length}
 use Rattle.geometry.specs.declared.Part.{Part}
@@ -10,12 +10,15 @@ use Rattle.plain.specs.declared.Refusal.the-variants.{Done}
 use Rattle.plain.specs.declared.Place.the-variants.{At}
 use Rattle.plain.specs.declared.Device.{Device}
 use Rattle.plain.specs.declared.Answer.{Answer}
-use Rattle.plain.specs.Events.{Event, read, cut}
+use Rattle.plain.specs.Ends.{endsInWait}
+use Rattle.plain.specs.Events.{Event, read, wait, cut}
 use Rattle.plain.specs.History.{history, holds}
 use Rattle.plain.specs.Lent.{Lent, cellAt}
 use Rattle.plain.specs.Machine.{Ran}
 use Rattle.plain.specs.Promises.{Left, Agrees}
 use Rattle.plain.specs.Record.{answer}
+use Rattle.plain.specs.Sound.{sound}
+use Rattle.plain.specs.SuspendedProgram.{programRests}
 use Rattle.cutting.specs.declared.begun.Exposed.{Exposed}
 use Rattle.machine.proofs.exposed.Reads as Exposes
 use Rattle.machine.proofs.reads_cells.Reads as Maps
@@ -55,3 +58,28 @@ abbrev pub ReadsCells : Part → Type 0
 ReadsCells p =
     (r : Device) (l after : Lent) (a : ℕ) (y : Answer) → Maps.Learnt tt (p, (r, (bankOf p a, tt))) true (p, (r, (bankOf p a, tt)))
     → length (l .cells) ≡ wordCount p → a < wordCount p → Allowed p r l (read a) y after → y ≡ answer Done (cellAt l a) r
+
+-- ---- what cannot happen (plain/specs/Ends, SuspendedProgram)
+
+-- in a wait that is taken no operation ends in a block then protected, whatever the record was
+abbrev pub WaitsSpareProtected : Part → Type 0
+WaitsSpareProtected p =
+    (r : Device) (l after : Lent) (n : ℕ) (y : Answer) → Allowed p r l (wait n) y after → y .refusal ≡ Done → endsInWait p r l n ≡ false
+
+-- and none will after any run from `machine::fresh`
+abbrev pub RunsSpareProtected : Part → Type 0
+RunsSpareProtected p =
+    (start : Lent) (es : List Event) (ran : Ran) (l : Lent) (n : ℕ) → Runs p start es ran → endsInWait p (ran .device) l n ≡ false
+
+-- "every event on a sound record leaves a sound one"
+abbrev pub AnswersStaySound : Part → Type 0
+AnswersStaySound p = (r : Device) (l after : Lent) (e : Event) (y : Answer) → Allowed p r l e y after → sound p r ≡ true → sound p (y .device) ≡ true
+
+-- no event suspends a program
+abbrev pub AnswersSuspendNoProgram : Part → Type 0
+AnswersSuspendNoProgram p =
+    (r : Device) (l after : Lent) (e : Event) (y : Answer) → Allowed p r l e y after → programRests (r .operation) ≡ false → programRests (y .device .operation) ≡ false
+
+-- after any run from `machine::fresh`
+abbrev pub RunsSuspendNoProgram : Part → Type 0
+RunsSuspendNoProgram p = (start : Lent) (es : List Event) (ran : Ran) → Runs p start es ran → programRests (ran .device .operation) ≡ false
