@@ -14,10 +14,11 @@ pub mod Lasting
 pub mod Data
 pub mod Ends
 pub mod Leaps
+pub mod CutCells
+pub mod QuickSound
 pub mod Quick
 pub mod EventLaws
 pub mod SuspendedProgram
 pub mod HistoryLeaps
 pub mod Worked
-pub mod CutCells
 pub mod BegunSound

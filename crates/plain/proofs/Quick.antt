@@ -1,47 +1,106 @@
--- The plain machine with waits in leaps: equal to it, and quick enough to compute worked rows by.
-use Prim.Native.Nat.{ℕ, _+_}
-use mathlib.Core.Path.{_≡_, refl, ap}
-use mathlib.Core.Bool.{not}
+-- The plain machine with waits in leaps and quick checks: equal to it, and quick enough to compute worked rows by.
+use Prim.Native.Nat.{ℕ, zero, suc, _+_}
+use mathlib.Core.Path.{_≡_, refl, sym, ap, _∙_}
+use mathlib.Core.Bool.{Bool, not}
 use mathlib.Core.List.{List, [], _∷_}
-use lib.Dec.{leb}
+use lib.Dec.{leb, ltb}
+use lib.ListN.{length}
+use borrow.Author.Tests.{ltb-false}
+use Rattle.cells.proofs.Laws.{length-erased}
 use Rattle.geometry.specs.declared.Part.{Part}
-use Rattle.plain.specs.declared.Refusal.the-variants.{Clock}
+use Rattle.geometry.specs.Parts.{wordCount}
+use Rattle.geometry.proofs.Laid.{block-fits}
+use Rattle.plain.specs.declared.Refusal.{Refusal}
+use Rattle.plain.specs.declared.Refusal.the-variants.{Address, Clock, Debris}
+use Rattle.plain.specs.declared.Running.{Running}
+use Rattle.plain.specs.declared.Running.the-variants.{Still, Programs, Waits, Erases, ErasesChip}
 use Rattle.plain.specs.declared.Device.{Device}
+use Rattle.plain.specs.Choice.{if_then_else_}
+use Rattle.plain.specs.Cut.{debrisNeeded}
 use Rattle.plain.specs.Events.{Event, read, write, wait, cut}
 use Rattle.plain.specs.Figures.{clockLimit}
-use Rattle.plain.specs.Lent.{Lent}
-use Rattle.plain.specs.Machine.{Outcome, Ran, ladder, now, waited, readEvent, writeEvent, waitEvent, cutEvent, step, run}
+use Rattle.plain.specs.Lent.{Lent, isWhole}
+use Rattle.plain.specs.Machine.{Outcome, Ran, refused, climbed, ladder, now, readTaken, writeTaken, waited, cutTaken, readEvent, writeEvent, waitEvent, cutEvent, step, run}
+use Rattle.plain.specs.Operations.{runningOf}
+use Rattle.plain.specs.Time.{Moment, last, lentTick, tick, ticks}
+use Rattle.plain.proofs.CutCells.{length-cut}
+use Rattle.plain.proofs.Ladder.{by-ladder}
 use Rattle.plain.proofs.Leaps.{leap, leap-ticks}
+use Rattle.plain.proofs.Programs.{length-finished}
+use Rattle.plain.proofs.Tools.{by-test}
+use Rattle.plain.proofs.QuickSound.{quickEntry, quick-entry}
 
 -- a chip erase has at most 270 happenings, and a wait may end after them
 abbrev fuel : ℕ
 fuel = 272
 
-unfoldable pub quickWait : Part → Device → Lent → ℕ → Outcome
-quickWait p r l n = ladder p r l (not (leb (r .meter .clock + n) (clockLimit p))) Clock (waited r (leap p fuel n (now r l)))
+-- ---- an event, over cells that are known to be whole or not
 
-pub quick-wait : (p : Part) (r : Device) (l : Lent) (n : ℕ) → waitEvent p r l n ≡ quickWait p r l n
-unfolding waitEvent quickWait
-quick-wait p r l n = rw (leap-ticks p fuel n (now r l))
+unfoldable pub quickLadder : Part → Device → Lent → (whole fails : Bool) → (own : Refusal) → (taken : Outcome) → Outcome
+quickLadder p r l whole fails own taken = climbed (quickEntry p r whole) r l (if fails then refused own r l else taken)
 
-unfoldable pub quickStep : Part → Device → Lent → Event → Outcome
-quickStep p r l (read a) = readEvent p r l a
-quickStep p r l (write a w) = writeEvent p r l a w
-quickStep p r l (wait n) = quickWait p r l n
-quickStep p r l (cut debris) = cutEvent p r l debris
+quick-ladder : (p : Part) (r : Device) (l : Lent) (whole : Bool) → isWhole p l ≡ whole → (fails : Bool) (own : Refusal) (taken : Outcome)
+    → ladder p r l fails own taken ≡ quickLadder p r l whole fails own taken
+unfolding ladder quickLadder
+quick-ladder p r l whole h fails own taken = rw (quick-entry p r l, h)
 
-pub quick-step : (p : Part) (r : Device) (l : Lent) (e : Event) → step p r l e ≡ quickStep p r l e
-unfolding step quickStep
-quick-step p r l (read a) = refl
-quick-step p r l (write a w) = refl
-quick-step p r l (wait n) = quick-wait p r l n
-quick-step p r l (cut debris) = refl
+unfoldable pub quickStep : Part → Device → Lent → (whole : Bool) → Event → Outcome
+quickStep p r l whole (read a) = quickLadder p r l whole (not (ltb a (wordCount p))) Address (readTaken p r l a)
+quickStep p r l whole (write a w) = quickLadder p r l whole (not (ltb a (wordCount p))) Address (writeTaken p r l a w)
+quickStep p r l whole (wait n) = quickLadder p r l whole (not (leb (r .meter .clock + n) (clockLimit p))) Clock (waited r (leap p fuel n (now r l)))
+quickStep p r l whole (cut debris) = quickLadder p r l whole (ltb (length debris) (debrisNeeded p (r .operation))) Debris (cutTaken p r l debris)
 
-unfoldable pub quickRun : Part → Device → Lent → List Event → Ran
-quickRun p r l [] = record { device = r; lent = l; turns = [] }
-quickRun p r l (e ∷ es) =
-    let o = quickStep p r l e in
-    let rest = quickRun p (o .answer .device) (o .lent) es in
+quick-step : (p : Part) (r : Device) (l : Lent) (whole : Bool) → isWhole p l ≡ whole → (e : Event) → step p r l e ≡ quickStep p r l whole e
+unfolding step quickStep readEvent writeEvent waitEvent cutEvent
+quick-step p r l whole h (read a) = quick-ladder p r l whole h _ Address _
+quick-step p r l whole h (write a w) = quick-ladder p r l whole h _ Address _
+quick-step p r l whole h (wait n) = rw (leap-ticks p fuel n (now r l)) (quick-ladder p r l whole h _ Clock _)
+quick-step p r l whole h (cut debris) = quick-ladder p r l whole h _ Debris _
+
+-- ---- whole cells stay whole, and others stay as they are
+
+module _ (p : Part) where
+  -- as many words as before
+  abbrev Kept : Lent → Lent → Type 0
+  Kept l m = length (m .cells) ≡ length (l .cells)
+
+  tick-keeps : (x : Running) (l : Lent) → length (l .cells) ≡ wordCount p → Kept l (lentTick p x l)
+  unfolding lentTick
+  tick-keeps Still l h = refl
+  tick-keeps (Programs q) l h = by-test (Kept l) (last (q .left)) (λ e. length-finished (q .writes) l) (λ e. refl)
+  tick-keeps (Waits e) l h = refl
+  tick-keeps (Erases e) l h = by-test (Kept l) (last (e .left)) (λ f. length-erased (l .cells) _ _ (rw h (block-fits p (e .hand)))) (λ f. refl)
+  tick-keeps (ErasesChip e) l h = by-test (Kept l) (last (e .left)) (λ f. length-erased (l .cells) _ _ (rw h (block-fits p (e .hand)))) (λ f. refl)
+
+  ticks-keep : (n : ℕ) (m : Moment) → length (m .lent .cells) ≡ wordCount p → Kept (m .lent) (ticks p n m .lent)
+  unfolding ticks tick
+  ticks-keep zero m h = refl
+  ticks-keep (suc n) m h =
+      let one = tick-keeps (runningOf (m .operation)) (m .lent) h in
+      ticks-keep n (tick p m) (one ∙ h) ∙ one
+
+  module _ (r : Device) (l : Lent) where
+    -- as many words as before, of an outcome
+    abbrev Sized : Outcome → Type 0
+    Sized o = Kept l (o .lent)
+
+    step-keeps : (e : Event) → Sized (step p r l e)
+    unfolding step readEvent writeEvent waitEvent cutEvent
+    step-keeps (read a) = by-ladder p r l _ Address (readTaken p r l a) Sized (λ s. refl) refl (λ f. refl) (λ f t. refl)
+    step-keeps (write a w) = by-ladder p r l _ Address (writeTaken p r l a w) Sized (λ s. refl) refl (λ f. refl) (λ f t. refl)
+    step-keeps (wait n) =
+        by-ladder p r l _ Clock (waited r (ticks p n (now r l))) Sized (λ s. refl) refl (λ f. refl) (λ f t. ticks-keep n (now r l) (f .whole))
+    step-keeps (cut debris) =
+        by-ladder p r l _ Debris (cutTaken p r l debris) Sized (λ s. refl) refl (λ f. refl)
+        (λ f t. length-cut p (r .operation) debris l (f .whole) (ltb-false _ _ t))
+
+-- ---- a run
+
+unfoldable pub quickRun : Part → Device → Lent → (whole : Bool) → List Event → Ran
+quickRun p r l whole [] = record { device = r; lent = l; turns = [] }
+quickRun p r l whole (e ∷ es) =
+    let o = quickStep p r l whole e in
+    let rest = quickRun p (o .answer .device) (o .lent) whole es in
     record {
       device = rest .device;
       lent = rest .lent;
@@ -49,10 +108,11 @@ quickRun p r l (e ∷ es) =
     }
 
 -- a run is the quick run
-pub quick-run : (p : Part) (r : Device) (l : Lent) (es : List Event) → run p r l es ≡ quickRun p r l es
+pub quick-run : (p : Part) (r : Device) (l : Lent) (whole : Bool) → isWhole p l ≡ whole → (es : List Event) → run p r l es ≡ quickRun p r l whole es
 unfolding run quickRun
-quick-run p r l [] = refl
-quick-run p r l (e ∷ es) = one (step p r l e) (quickStep p r l e) (quick-step p r l e) (λ o. quick-run p (o .answer .device) (o .lent) es)
+quick-run p r l whole h [] = refl
+quick-run p r l whole h (e ∷ es) =
+    one (step p r l e) (quickStep p r l whole e) (quick-step p r l whole h e) (rw (step-keeps p r l e) h) (λ o k. quick-run p (o .answer .device) (o .lent) whole k es)
   where
     after : Ran → Outcome → Ran
     after rest o =
@@ -62,6 +122,7 @@ quick-run p r l (e ∷ es) = one (step p r l e) (quickStep p r l e) (quick-step 
           turns = record { event = e; refusal = o .answer .refusal; word = o .answer .word } ∷ rest .turns;
         }
 
-    one : (o q : Outcome) → o ≡ q → ((x : Outcome) → run p (x .answer .device) (x .lent) es ≡ quickRun p (x .answer .device) (x .lent) es)
-        → after (run p (o .answer .device) (o .lent) es) o ≡ after (quickRun p (q .answer .device) (q .lent) es) q
-    one o q d rest = rw d (ap (λ (x : Ran). after x q) (rest q))
+    one : (o q : Outcome) → o ≡ q → isWhole p (o .lent) ≡ whole
+        → ((x : Outcome) → isWhole p (x .lent) ≡ whole → run p (x .answer .device) (x .lent) es ≡ quickRun p (x .answer .device) (x .lent) whole es)
+        → after (run p (o .answer .device) (o .lent) es) o ≡ after (quickRun p (q .answer .device) (q .lent) whole es) q
+    one o q d k rest = rw (← d) (ap (λ (x : Ran). after x o) (rest o k))

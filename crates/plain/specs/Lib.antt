@@ -14,7 +14,11 @@ pub mod Status
 pub mod Cut
 pub mod Machine
 pub mod Ends
+pub mod Rows
 pub mod Bench
+pub mod CommandRulings
+pub mod OperationRulings
+pub mod Rulings
 pub mod SuspendedProgram
 pub mod History
 pub mod Promises

@@ -5,7 +5,6 @@ use mathlib.Core.Path.{_≡_}
 use mathlib.Core.Bool.{Bool, false}
 use mathlib.Core.List.{List, [], _∷_, _++_}
 use Rattle.geometry.specs.declared.Part.{Part}
-use Rattle.geometry.specs.declared.Part.the-variants.{Small}
 use Rattle.geometry.specs.Parts.{wordCount}
 use Rattle.protection.specs.declared.Protection.{Protection}
 use Rattle.protection.specs.Protection.{freshBits}
@@ -16,10 +15,10 @@ use Rattle.plain.specs.declared.Operation.the-variants.{Programming, Pro
 use Rattle.plain.specs.declared.Running.the-variants.{Programs}
 use Rattle.plain.specs.declared.Command.the-variants.{Ground}
 use Rattle.plain.specs.declared.Device.{Device}
-use Rattle.plain.specs.Bench.{Said, done, refuse, Finding, finding, after, blank, unlock}
+use Rattle.plain.specs.Rows.{Row, runs, takes, waits, gives, refuses, holds, blank, enters, dybGives, suspendedThird}
 use Rattle.plain.specs.Commands.{programIsSuspended}
-use Rattle.plain.specs.Events.{Event, read, write, wait, cut}
-use Rattle.plain.specs.Lent.{Lent, lent}
+use Rattle.plain.specs.Events.{Event, write, cut}
+use Rattle.plain.specs.Lent.{Lent}
 use Rattle.plain.specs.Machine.{Fit, refused, step, run}
 use Rattle.plain.specs.Operations.{runningOf, suspensionOf}
 use Rattle.plain.specs.Programs.{writing}
@@ -60,58 +59,42 @@ restsBegun = device (record { clock = 10; charge = 34120 }) Ground (ProgramSuspe
 abbrev restsUnbegun : Device
 restsUnbegun = device (record { clock = 10; charge = 150 }) Ground (ProgramSuspended (program (writing 100 0x1234) 6 false)) freshBits
 
--- a run from a stored record over blank cells, and what it comes to at word 100
-pub record Stored : Type 0 where
-  pub from : Device
-  pub events : List Event
-  pub stated : Finding
-
-abbrev stored : Device → List Event → List Said → (word clock charge : ℕ) → Stored
-stored r es said w c q = record { from = r; events = es; stated = finding said (w ∷ []) c q }
-
-abbrev pub storedFound : Stored → Finding
-storedFound s = after (run Small (s .from) (lent blank) (s .events)) (100 ∷ [])
-
--- both unlock writes and the third
-abbrev enters : ℕ → List Event
-enters w = unlock ++ (write 0x555 w ∷ [])
-
-abbrev taken : List Said
-taken = done 0 ∷ done 0 ∷ done 0 ∷ []
-
-abbrev turned : List Said
-turned = done 0 ∷ done 0 ∷ refuse 10 ∷ []
-
 -- every word of the block shows DQ7 (the complement of data bit 7), DQ6 and DQ2, and none flips; time passes it by
-abbrev reads : Stored
+abbrev reads : Row
 reads =
-    stored restsBegun (read 100 ∷ read 64 ∷ read 127 ∷ wait 1000 ∷ read 100 ∷ read 63 ∷ read 128 ∷ read 3000 ∷ [])
-    (done 0xC4 ∷ done 0xC4 ∷ done 0xC4 ∷ done 0 ∷ done 0xC4 ∷ done 0xFFFF ∷ done 0xFFFF ∷ done 0xFFFF ∷ []) 0xFFFF 1010 49120
+    runs restsBegun blank
+    (gives 100 0xC4 ++ gives 64 0xC4 ++ gives 127 0xC4 ++ waits 1000 ++ gives 100 0xC4 ++ gives 63 0xFFFF ++ gives 128 0xFFFF ++ gives 3000 0xFFFF)
+    (holds 100 0xFFFF ∷ []) 1010 49120
 
 -- 90H, 58H and F0H as ever
-abbrev identifies : Stored
+abbrev identifies : Row
 identifies =
-    stored restsBegun (enters 0x90 ++ (read 0 ∷ read 2 ∷ read 100 ∷ read 2048 ∷ write 0 0xF0 ∷ []) ++ enters 0x58 ++ (read 100 ∷ write 0 0xF0 ∷ read 100 ∷ []))
-    (taken ++ (done 0xEC ∷ done 0 ∷ done 0 ∷ done 0xFFFF ∷ done 0 ∷ []) ++ taken ++ (done 0 ∷ done 0 ∷ done 0xC4 ∷ [])) 0xFFFF 10 34120
+    runs restsBegun blank
+    (takes (enters 0x90) ++ gives 0 0xEC ++ gives 2 0 ++ gives 100 0 ++ gives 2048 0xFFFF ++ takes (write 0 0xF0 ∷ []) ++ dybGives 100 0 ++ gives 100 0xC4)
+    (holds 100 0xFFFF ∷ []) 10 34120
 
 -- 30H resumes; B0H does not suspend it again, and finds nothing running at its end
-abbrev goesOn : Stored
+abbrev goesOn : Row
 goesOn =
-    stored restsBegun (write 0 0x30 ∷ read 100 ∷ read 100 ∷ wait 3 ∷ write 0 0xB0 ∷ read 100 ∷ wait 1 ∷ read 100 ∷ write 0 0xB0 ∷ [])
-    (done 0 ∷ done 0xC4 ∷ done 0x84 ∷ done 0 ∷ refuse 6 ∷ done 0xC4 ∷ done 0 ∷ done 0x1234 ∷ refuse 7 ∷ []) 0x1234 14 102120
+    runs restsBegun blank
+    (takes (write 0 0x30 ∷ []) ++ gives 100 0xC4 ++ gives 100 0x84 ++ waits 3 ++ refuses 6 (write 0 0xB0) ++ gives 100 0xC4 ++ waits 1 ++ gives 100 0x1234
+    ++ refuses 7 (write 0 0xB0))
+    (holds 100 0x1234 ∷ []) 14 102120
 
 -- cut: one debris word if it had begun, and none if not
-abbrev cutBegun : Stored
-cutBegun = stored restsBegun (cut [] ∷ cut (0xFF00 ∷ []) ∷ read 100 ∷ []) (refuse 5 ∷ done 0 ∷ done 0xFF34 ∷ []) 0xFF34 10 34120
+abbrev cutBegun : Row
+cutBegun =
+    runs restsBegun blank (refuses 5 (cut []) ++ takes (cut (0xFF00 ∷ []) ∷ []) ++ gives 100 0xFF34) (holds 100 0xFF34 ∷ []) 10 34120
 
-abbrev cutUnbegun : Stored
-cutUnbegun = stored restsUnbegun (cut [] ∷ read 100 ∷ []) (done 0 ∷ done 0xFFFF ∷ []) 0xFFFF 10 150
+abbrev cutUnbegun : Row
+cutUnbegun = runs restsUnbegun blank (takes (cut [] ∷ []) ++ gives 100 0xFFFF) (holds 100 0xFFFF ∷ []) 10 150
 
 -- A0H, 80H, 48H, 78H and 60H are SUSPENDED, B0H SEQUENCE, and it stays suspended
-abbrev turnsDown : Stored
+abbrev turnsDown : Row
 turnsDown =
-    stored restsBegun (enters 0xA0 ++ enters 0x80 ++ enters 0x48 ++ enters 0x78 ++ enters 0x60 ++ (write 0 0xB0 ∷ read 100 ∷ []))
-    (turned ++ turned ++ turned ++ turned ++ turned ++ (refuse 7 ∷ done 0xC4 ∷ [])) 0xFFFF 10 34120
+    runs restsBegun blank
+    (suspendedThird 0xA0 ++ suspendedThird 0x80 ++ suspendedThird 0x48 ++ suspendedThird 0x78 ++ suspendedThird 0x60 ++ refuses 7 (write 0 0xB0) ++ gives 100 0xC4)
+    (holds 100 0xFFFF ∷ []) 10 34120
 
-abbrev pub storeds : List Stored
+abbrev pub storeds : List Row
 storeds = reads ∷ identifies ∷ goesOn ∷ cutBegun ∷ cutUnbegun ∷ turnsDown ∷ []

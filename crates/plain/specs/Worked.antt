@@ -3,7 +3,7 @@ use Prim.Native.Nat.{ℕ}
 use mathlib.Core.List.{List, [], _∷_, _++_, map}
 use lib.ListN.{replicate}
 use Rattle.geometry.specs.declared.Part.the-variants.{Small}
-use Rattle.plain.specs.Bench.{blank, unlock, programOf, eraseOf}
+use Rattle.plain.specs.Rows.{laid, blank, enters, programOf, eraseOf, chipEraseOf, dybOf}
 use Rattle.plain.specs.Refusals.{number}
 use Rattle.plain.specs.Events.{Event, read, write, wait, cut, Turn}
 use Rattle.plain.specs.Lent.{lent, cellAt}
@@ -37,7 +37,7 @@ abbrev pub tells : Ran → Told → List ℕ → Tale
 tells r h at = tale (map (λ (t : Turn). number (t .refusal)) (r .turns)) (h .facts) (map (cellAt (r .lent)) at) (h .clock) (h .charge)
 
 abbrev pub worked : Work → Tale
-worked w = tells (run Small fresh (lent blank) (w .events)) (history Small (run Small fresh (lent blank) (w .events) .turns)) (w .addresses)
+worked w = tells (run Small fresh (lent (laid blank)) (w .events)) (history Small (run Small fresh (lent (laid blank)) (w .events) .turns)) (w .addresses)
 
 -- ---- commands that are taken, of four writes and of six
 
@@ -73,7 +73,7 @@ abandoned =
 abbrev chipOver : Work
 chipOver =
     work
-    (programOf 0 0 ++ (wait 6 ∷ []) ++ unlock ++ (write 0x555 0x48 ∷ write 0 1 ∷ []) ++ unlock ++ (write 0x555 0x80 ∷ unlock ++ (write 0x555 0x10 ∷ wait 1000000 ∷ [])))
+    (programOf 0 0 ++ (wait 6 ∷ []) ++ dybOf 0 1 ++ chipEraseOf ++ (wait 1000000 ∷ []))
     (0 ∷ [])
     (tale (four ++ (0 ∷ []) ++ four ++ six ++ (0 ∷ [])) (eraseDone 2 ∷ eraseDone 1 ∷ programDone (writing 0 0) ∷ []) (0 ∷ []) 1000006 17000102000)
 
@@ -86,7 +86,7 @@ debris = replicate 63 0xAAAA ++ (0xBBBB ∷ 0xFF00 ∷ [])
 -- 300,000 µs and is suspended for 1,000; 1234H at 200 runs inside it for 5 µs. Then the power is cut
 abbrev pub flat : List Event
 flat =
-    programOf 300 0x5678 ++ (wait 6 ∷ []) ++ unlock ++ (write 0x555 0x60 ∷ write 0 0x68 ∷ write 0 0x48 ∷ []) ++ eraseOf 0 ++ eraseOf 64
+    programOf 300 0x5678 ++ (wait 6 ∷ []) ++ enters 0x60 ++ (write 0 0x68 ∷ write 0 0x48 ∷ []) ++ eraseOf 0 ++ eraseOf 64
     ++ (wait 300050 ∷ write 0 0xB0 ∷ wait 1000 ∷ []) ++ programOf 200 0x1234 ++ (wait 5 ∷ cut debris ∷ [])
 
 abbrev flatRefusals : List ℕ
