@@ -1,7 +1,7 @@
 -- The plain machine with waits in leaps and quick checks: equal to it, and quick enough to compute worked rows by.
 use Prim.Native.Nat.{ℕ, zero, suc, _+_}
 use mathlib.Core.Path.{_≡_, refl, sym, ap, _∙_}
-use mathlib.Core.Bool.{Bool, not}
+use mathlib.Core.Bool.{Bool, true, false, not}
 use mathlib.Core.List.{List, [], _∷_}
 use lib.Dec.{leb, ltb}
 use lib.ListN.{length}
@@ -34,6 +34,18 @@ use Rattle.plain.proofs.QuickSound.{quickEntry, quick-entry}
 abbrev fuel : ℕ
 fuel = 272
 
+-- a short wait by microseconds, as it is defined
+unfoldable pub quickTicks : Part → ℕ → Moment → Moment
+quickTicks p n m = elim (ltb n 10) [ true ↦ ticks p n m | false ↦ leap p fuel n m ]
+
+quick-ticks : (p : Part) (n : ℕ) (m : Moment) → ticks p n m ≡ quickTicks p n m
+unfolding quickTicks
+quick-ticks p n m = go (ltb n 10)
+  where
+    go : (b : Bool) → ticks p n m ≡ (elim b [ true ↦ ticks p n m | false ↦ leap p fuel n m ])
+    go true = refl
+    go false = sym (leap-ticks p fuel n m)
+
 -- ---- an event, over cells that are known to be whole or not
 
 unfoldable pub quickLadder : Part → Device → Lent → (whole fails : Bool) → (own : Refusal) → (taken : Outcome) → Outcome
@@ -47,14 +59,14 @@ quick-ladder p r l whole h fails own taken = rw (quick-entry p r l, h)
 unfoldable pub quickStep : Part → Device → Lent → (whole : Bool) → Event → Outcome
 quickStep p r l whole (read a) = quickLadder p r l whole (not (ltb a (wordCount p))) Address (readTaken p r l a)
 quickStep p r l whole (write a w) = quickLadder p r l whole (not (ltb a (wordCount p))) Address (writeTaken p r l a w)
-quickStep p r l whole (wait n) = quickLadder p r l whole (not (leb (r .meter .clock + n) (clockLimit p))) Clock (waited r (leap p fuel n (now r l)))
+quickStep p r l whole (wait n) = quickLadder p r l whole (not (leb (r .meter .clock + n) (clockLimit p))) Clock (waited r (quickTicks p n (now r l)))
 quickStep p r l whole (cut debris) = quickLadder p r l whole (ltb (length debris) (debrisNeeded p (r .operation))) Debris (cutTaken p r l debris)
 
 quick-step : (p : Part) (r : Device) (l : Lent) (whole : Bool) → isWhole p l ≡ whole → (e : Event) → step p r l e ≡ quickStep p r l whole e
 unfolding step quickStep readEvent writeEvent waitEvent cutEvent
 quick-step p r l whole h (read a) = quick-ladder p r l whole h _ Address _
 quick-step p r l whole h (write a w) = quick-ladder p r l whole h _ Address _
-quick-step p r l whole h (wait n) = rw (leap-ticks p fuel n (now r l)) (quick-ladder p r l whole h _ Clock _)
+quick-step p r l whole h (wait n) = rw (quick-ticks p n (now r l)) (quick-ladder p r l whole h _ Clock _)
 quick-step p r l whole h (cut debris) = quick-ladder p r l whole h _ Debris _
 
 -- ---- whole cells stay whole, and others stay as they are

@@ -20,7 +20,7 @@ use Rattle.plain.specs.Operations.{runningInside, runningOf, suspensionO
 use Rattle.plain.specs.Record.{fresh}
 use Rattle.plain.specs.Sound.{meterSound, programSound, lowest, insideSound, cycleInRange, readingInRange, cycleInSuspension, cycleSound, stillCommand, isGround, isStill, commandSound}
 use Rattle.plain.specs.Commands.{isSuspended, programIsSuspended, resumes, begins, atGround, afterUnlock, afterUnlocked, afterA0, after80, after80Unlock, after80Unlocked, after48, after60, after68, after6060, afterReading, continued, entered, addBlock, inWindow, inSuspendedErase, written, effected}
-use Rattle.plain.specs.Time.{current, insideTick, operationTick, lentTick, tick}
+use Rattle.plain.specs.Time.{current, insideTick, operationTick, lentTick, tick, ticks}
 use Rattle.plain.specs.Status.{polls, insidePolled, polled, status, givenAt, givenWord, readingOn, readingWord, rests, restWord, rested, look}
 use Rattle.plain.specs.Cut.{begunBlock, begunInside, begunProgram, wordOf, blockDebris, programDebris, debrisNeeded, blockCut, programCut, cutLent}
 use Rattle.plain.specs.Machine.{climbed}
@@ -31,7 +31,7 @@ use Rattle.plain.specs.SuspendedProgram.{storeds}
 use Rattle.plain.specs.History.{Told, kind, draws, goes, comes, microsecond, beginsProgram, goesOn, hearsCycle, hears, wrote, gaveUp, turnedDown, wroteAs, cuts, cutAs, untold}
 use Rattle.plain.specs.Worked.{Tale, Work, tells, worked, tales}
 use Rattle.plain.proofs.Leaps.{insideDue, dueOf, insideLess, less, drifted, leap}
-use Rattle.plain.proofs.Quick.{quickLadder, quickStep, quickRun, quick-run}
+use Rattle.plain.proofs.Quick.{quickTicks, quickLadder, quickStep, quickRun, quick-run}
 use Rattle.plain.proofs.QuickSound.{someAt, someOf, quickOnly, quickList, quickChipList, quickOperation, quickSound, quickEntry}
 use Rattle.plain.proofs.HistoryLeaps.{toGo, further, later, quickTime, quickWaited, quickTell, quickTold, quick-told}
 
@@ -99,7 +99,7 @@ unfolding filled has pack setOf some seek programmed erased littered cutShort
     polls insidePolled polled status givenAt givenWord readingOn readingWord rests restWord rested look
     begunBlock begunInside begunProgram wordOf blockDebris programDebris debrisNeeded blockCut programCut cutLent
     climbed someAt someOf quickOnly quickList quickChipList quickOperation quickSound quickEntry quickLadder
-    insideDue dueOf insideLess less drifted leap quickStep quickRun
+    insideDue dueOf insideLess less drifted leap ticks quickTicks quickStep quickRun
     kind draws goes comes microsecond beginsProgram goesOn hearsCycle hears wrote gaveUp turnedDown wroteAs cuts cutAs
     toGo further later quickTime quickWaited quickTell quickTold
 computed = record { rows = refl; ruled = refl; resting = refl; told = refl }

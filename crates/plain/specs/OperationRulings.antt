@@ -7,7 +7,7 @@ use Rattle.blocks.specs.Blocks.{withOf}
 use Rattle.protection.specs.Protection.{freshBits}
 use Rattle.plain.specs.declared.Inside.{Inside}
 use Rattle.plain.specs.declared.Inside.the-variants.{Nothing, Runs}
-use Rattle.plain.specs.declared.Operation.the-variants.{Erasing, EraseSuspended, ChipErasing}
+use Rattle.plain.specs.declared.Operation.the-variants.{ProgramSuspended, Erasing, EraseSuspended, ChipErasing}
 use Rattle.plain.specs.declared.Command.the-variants.{Ground}
 use Rattle.plain.specs.declared.Device.{Device}
 use Rattle.plain.specs.Events.{write, wait, cut}
@@ -81,6 +81,11 @@ longWait =
     runs (standing Ground (Erasing (erase (withOf (only 8) 9) 8 700000 false false)) freshBits) (but (holds 64 0 ∷ holds 128 0 ∷ holds 192 0 ∷ [])) (waits 1400010 ++ gives 64 0xFFFF)
     (holds 64 0xFFFF ∷ holds 128 0xFFFF ∷ holds 192 0 ∷ []) 1400010 23800000150
 
+-- what is left of a wait after one block goes to the next: 1 µs ends block 8, and 2 µs begin block 9
+abbrev restOfWait : Row
+restOfWait =
+    runs (standing Ground (Erasing (erase (withOf (only 8) 9) 8 1 false false)) freshBits) (but (holds 64 0 ∷ [])) (waits 3 ++ refuses 5 (cut [])) (holds 64 0xFFFF ∷ []) 3 51000
+
 -- a program that changes nothing still takes 6 µs at the running current, and begins after 1
 abbrev changesNothing : Row
 changesNothing =
@@ -101,6 +106,11 @@ finishedRests = runs (pausing 9 1 Nothing) blank (gives 64 0xC4 ++ gives 128 0xC
 -- DQ2 flips for every listed block, finished or not
 abbrev finishedFlips : Row
 finishedFlips = runs (standing Ground (Erasing (erase (withOf (only 8) 9) 9 1 false false)) freshBits) blank (gives 64 0x4C ++ gives 128 0x08 ++ gives 127 0x4C) [] 0 0
+
+-- a suspended program of a stored record shows the complement of data bit 7, in every word of its block and not in the bank's rest
+abbrev restingProgram : Row
+restingProgram =
+    runs (standing Ground (ProgramSuspended (program (writing 100 0x0080) 4 false)) freshBits) blank (gives 100 0x44 ++ gives 64 0x44 ++ gives 127 0x44 ++ gives 128 0xFFFF) [] 0 0
 
 -- DQ7 is of the written data, not of what the cell will hold
 abbrev dq7OfData : Row
@@ -166,5 +176,5 @@ chipUnbegun = runs (standing Ground (ChipErasing (erase (withOf (only 0) 1) 1 50
 abbrev pub operationRulings : List Row
 operationRulings =
     listedAgain ∷ lowerBlockFirst ∷ windowOf50 ∷ refusedBlock ∷ suspendedInWindow ∷ suspendedUnbegun ∷ programInside ∷ suspendedAtOnce
-    ∷ insideBusy ∷ longWait ∷ changesNothing ∷ restingToggles ∷ finishedRests ∷ finishedFlips ∷ dq7OfData ∷ insideOwnBank ∷ insideOtherBank
+    ∷ insideBusy ∷ longWait ∷ restOfWait ∷ changesNothing ∷ restingToggles ∷ finishedRests ∷ finishedFlips ∷ restingProgram ∷ dq7OfData ∷ insideOwnBank ∷ insideOtherBank
     ∷ dq2OffList ∷ chipStatus ∷ betweenBlocks ∷ restingBegun ∷ debrisFromFirst ∷ oldAtCut ∷ programsDebris ∷ chipCut ∷ chipUnbegun ∷ []
