@@ -15,7 +15,8 @@ use Rattle.plain.specs.declared.SuspendedErase.{SuspendedErase}
 use Rattle.plain.specs.declared.Operation.{Operation}
 use Rattle.plain.specs.declared.Operation.the-variants.{Idle, Programming, ProgramSuspended, Window, Erasing, EraseSuspended, ChipErasing}
 use Rattle.plain.specs.Operations.{runningOf, runningInside}
-use Rattle.plain.specs.Ends.{endsProtected, someEndProtected, Met, NeverEndsProtected}
+use Rattle.plain.specs.Ends.{endsProtected, someEndProtected, NeverEndsProtected}
+use Rattle.plain.specs.Unmade.{Met}
 use Rattle.plain.specs.Machine.{now}
 use Rattle.plain.specs.Programs.{blockWritten}
 use Rattle.plain.specs.Sound.{erasable, operationSound}

@@ -21,4 +21,5 @@ pub mod EventLaws
 pub mod SuspendedProgram
 pub mod HistoryLeaps
 pub mod Worked
+pub mod Judged
 pub mod BegunSound

@@ -24,12 +24,12 @@ use Rattle.plain.specs.Time.{current, insideTick, operationTick, lentTic
 use Rattle.plain.specs.Status.{polls, insidePolled, polled, status, givenAt, givenWord, readingOn, readingWord, rests, restWord, rested, look}
 use Rattle.plain.specs.Cut.{begunBlock, begunInside, begunProgram, wordOf, blockDebris, programDebris, debrisNeeded, blockCut, programCut, cutLent}
 use Rattle.plain.specs.Machine.{climbed}
-use Rattle.plain.specs.Rows.{Finding, Held, Cells, filled, laid, Row, lookups, runs, stated, after, eventsOf, found, blank}
+use Rattle.plain.specs.Rows.{Finding, Held, Cells, filled, laid, Row, lookups, runs, stated, after, eventsOf, found, AsStated, blank}
 use Rattle.plain.specs.Bench.{bench}
 use Rattle.plain.specs.Rulings.{rulings}
-use Rattle.plain.specs.SuspendedProgram.{storeds}
+use Rattle.plain.specs.Stored.{storeds}
 use Rattle.plain.specs.History.{Told, kind, draws, goes, comes, microsecond, beginsProgram, goesOn, hearsCycle, hears, wrote, gaveUp, turnedDown, wroteAs, cuts, cutAs, untold}
-use Rattle.plain.specs.Worked.{Tale, Work, tells, worked, tales}
+use Rattle.plain.specs.Worked.{Tale, Work, tells, worked, AsTold, tales}
 use Rattle.plain.proofs.Leaps.{insideDue, dueOf, insideLess, less, drifted, leap}
 use Rattle.plain.proofs.Quick.{quickTicks, quickLadder, quickStep, quickRun, quick-run}
 use Rattle.plain.proofs.QuickSound.{someAt, someOf, quickOnly, quickList, quickChipList, quickOperation, quickSound, quickEntry}
@@ -104,14 +104,14 @@ unfolding filled has pack setOf some seek programmed erased littered cutShort
     toGo further later quickTime quickWaited quickTell quickTold
 computed = record { rows = refl; ruled = refl; resting = refl; told = refl }
 
-pub bench-holds : map found bench ≡ map stated bench
+pub bench-holds : AsStated bench
 bench-holds = quick-rows bench ∙ computed .rows
 
-pub rulings-hold : map found rulings ≡ map stated rulings
+pub rulings-hold : AsStated rulings
 rulings-hold = quick-rows rulings ∙ computed .ruled
 
-pub storeds-hold : map found storeds ≡ map stated storeds
+pub storeds-hold : AsStated storeds
 storeds-hold = quick-rows storeds ∙ computed .resting
 
-pub tales-hold : map worked tales ≡ map (λ (w : Work). w .stated) tales
+pub tales-hold : AsTold tales
 tales-hold = quick-tales tales ∙ computed .told

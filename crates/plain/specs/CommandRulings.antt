@@ -1,6 +1,5 @@
 -- The table of rulings, "Command cycles".
-use Prim.Native.Nat.{ℕ}
-use mathlib.Core.Bool.{false, true}
+use mathlib.Core.Bool.{true}
 use mathlib.Core.List.{List, [], _∷_, _++_}
 use lib.Dec.{ltb}
 use lib.ListN.{set}

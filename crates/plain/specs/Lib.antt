@@ -14,12 +14,15 @@ pub mod Status
 pub mod Cut
 pub mod Machine
 pub mod Ends
+pub mod Unmade
 pub mod Rows
 pub mod Bench
 pub mod CommandRulings
 pub mod OperationRulings
 pub mod Rulings
 pub mod SuspendedProgram
+pub mod Stored
+pub mod Judged
 pub mod History
 pub mod Promises
 pub mod Worked

@@ -2,7 +2,7 @@
 use Prim.Native.Nat.{ℕ}
 use mathlib.Core.Bool.{false, true}
 use mathlib.Core.List.{List, [], _∷_, _++_}
-use lib.ListN.{set, replicate}
+use lib.ListN.{replicate}
 use Rattle.blocks.specs.Blocks.{withOf}
 use Rattle.protection.specs.Protection.{freshBits}
 use Rattle.plain.specs.declared.Inside.{Inside}

@@ -1,6 +1,7 @@
 -- A row: a run from a given record over lent cells of the small part, event by event with the answer that is stated, and what it
 -- comes to. The bench table, the stored records and the table of rulings are made of such rows.
 use Prim.Native.Nat.{ℕ}
+use mathlib.Core.Path.{_≡_}
 use mathlib.Core.Bool.{false}
 use mathlib.Core.List.{List, [], _∷_, _++_, map}
 use lib.ListN.{set, replicate}
@@ -17,7 +18,7 @@ use Rattle.plain.specs.declared.Command.{Command}
 use Rattle.plain.specs.declared.Command.the-variants.{Ground}
 use Rattle.plain.specs.declared.Device.{Device}
 use Rattle.plain.specs.Refusals.{number}
-use Rattle.plain.specs.Events.{Event, read, write, wait, cut, Turn}
+use Rattle.plain.specs.Events.{Event, read, write, wait, Turn}
 use Rattle.plain.specs.Lent.{lent, cellAt}
 use Rattle.plain.specs.Machine.{Ran, run}
 use Rattle.plain.specs.Record.{device, erase, suspended}
@@ -88,6 +89,10 @@ laid c = filled (replicate (c .count) 0xFFFF) (c .others)
 abbrev pub found : Row → Finding
 found (lookups ls) = finding (map (λ (l : Looked). say (refusalAsked Small (l .address)) (blockAsked Small (l .address))) ls) [] 0 0
 found (runs r cells ss hs c q) = after (run Small r (lent (laid cells)) (eventsOf ss)) hs
+
+-- of each row of a table the plain machine makes what is stated
+abbrev pub AsStated : List Row → Type 0
+AsStated rows = map found rows ≡ map stated rows
 
 -- ---- answers stated
 

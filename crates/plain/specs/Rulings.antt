@@ -3,7 +3,7 @@
 use Prim.Native.Nat.{ℕ}
 use mathlib.Core.Bool.{false, true}
 use mathlib.Core.List.{List, [], _∷_, _++_}
-use lib.ListN.{set, replicate}
+use lib.ListN.{set}
 use Rattle.blocks.specs.Blocks.{emptyOf, withOf}
 use Rattle.protection.specs.Protection.{bits, freshBits}
 use Rattle.plain.specs.declared.Inside.the-variants.{Runs}

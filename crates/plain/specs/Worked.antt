@@ -1,5 +1,6 @@
 -- Worked histories, to be held against the definitions: what a run's events and answers tell, and what its cells hold.
 use Prim.Native.Nat.{ℕ}
+use mathlib.Core.Path.{_≡_}
 use mathlib.Core.List.{List, [], _∷_, _++_, map}
 use lib.ListN.{replicate}
 use Rattle.geometry.specs.declared.Part.the-variants.{Small}
@@ -111,3 +112,7 @@ secondCut =
 
 abbrev pub tales : List Work
 tales = finished ∷ busy ∷ resumed ∷ abandoned ∷ chipOver ∷ cutFlat ∷ secondCut ∷ []
+
+-- each tells what is stated
+abbrev pub AsTold : List Work → Type 0
+AsTold ws = map worked ws ≡ map (λ (w : Work). w .stated) ws

@@ -1,0 +1,135 @@
+-- "A record is sound when ..": each clause by two records that differ in it alone, one just within and one just beyond.
+use Prim.Native.Nat.{ℕ}
+use mathlib.Core.Path.{_≡_}
+use mathlib.Core.Bool.{Bool, true, false}
+use mathlib.Core.List.{List, [], _∷_, _++_, map}
+use Rattle.blocks.specs.declared.Blocks.{Blocks}
+use Rattle.blocks.specs.Blocks.{emptyOf, withOf}
+use Rattle.geometry.specs.declared.Part.the-variants.{Small}
+use Rattle.protection.specs.declared.Protection.{Protection}
+use Rattle.protection.specs.Protection.{bits, freshBits}
+use Rattle.plain.specs.declared.Program.{Program}
+use Rattle.plain.specs.declared.Erase.{Erase}
+use Rattle.plain.specs.declared.Inside.{Inside}
+use Rattle.plain.specs.declared.Inside.the-variants.{Nothing, Runs}
+use Rattle.plain.specs.declared.Operation.{Operation}
+use Rattle.plain.specs.declared.Operation.the-variants.{Idle, Programming, ProgramSuspended, Window, Erasing, EraseSuspended, ChipErasing}
+use Rattle.plain.specs.declared.Command.{Command}
+use Rattle.plain.specs.declared.Command.the-variants.{Ground, Entering, Reads}
+use Rattle.plain.specs.declared.Cycle.the-variants.{Unlock, Unlocked, ProgramData, EraseSetup, DybData, PpbSetup, PpbSetting, PpbClearing}
+use Rattle.plain.specs.declared.Reading.the-variants.{Identity, Dybs}
+use Rattle.plain.specs.declared.Device.{Device}
+use Rattle.plain.specs.Programs.{writing}
+use Rattle.plain.specs.Record.{program, erase, suspended}
+use Rattle.plain.specs.Rows.{metered, standing, only}
+use Rattle.plain.specs.Sound.{sound}
+
+-- ---- two records, judged
+
+pub record Edge : Type 0 where
+  pub within : Device
+  pub beyond : Device
+
+abbrev pub edge : Device → Device → Edge
+edge w b = record { within = w; beyond = b }
+
+abbrev pub judged : Edge → List Bool
+judged e = sound Small (e .within) ∷ sound Small (e .beyond) ∷ []
+
+-- ---- records with one thing under way (block 8 is words 64 to 127, block 9 words 128 to 191, block 39 the first of bank 1B)
+
+abbrev doing : Operation → Device
+doing o = standing Ground o freshBits
+
+abbrev programAt : (address left : ℕ) → Program
+programAt a left = program (writing a 0) left false
+
+abbrev eraseOf : Blocks → (hand left : ℕ) → Erase
+eraseOf list hand left = erase list hand left false false
+
+abbrev two : ℕ → ℕ → Blocks
+two a b = withOf (only a) b
+
+abbrev resting : Command → Inside → Device
+resting c i = standing c (EraseSuspended (suspended (eraseOf (only 8) 8 1) i)) freshBits
+
+abbrev guarding : Operation → Protection → Device
+guarding o b = standing Ground o b
+
+-- ---- the clauses
+
+-- "the clock is at most the limit; charge is at most 17,000 times the clock"
+abbrev pub meters : List Edge
+meters = edge (metered 100000000000000 0) (metered 100000000000001 0) ∷ edge (metered 1 17000) (metered 1 17001) ∷ []
+
+-- "addresses and block numbers are in range"
+abbrev pub ranges : List Edge
+ranges =
+    edge (doing (Programming (programAt 16383 1))) (doing (Programming (programAt 16384 1)))
+    ∷ edge (doing (Erasing (eraseOf (two 262 269) 262 1))) (doing (Erasing (eraseOf (two 262 270) 262 1)))
+    ∷ edge (guarding Idle (bits (only 269) emptyOf false)) (guarding Idle (bits (only 270) emptyOf false))
+    ∷ edge (guarding Idle (bits emptyOf (only 269) false)) (guarding Idle (bits emptyOf (only 319) false))
+    ∷ edge (standing (Entering (PpbSetting 269)) Idle freshBits) (standing (Entering (PpbSetting 270)) Idle freshBits)
+    ∷ edge (standing (Reads (Identity 3)) Idle freshBits) (standing (Reads (Identity 4)) Idle freshBits)
+    ∷ []
+
+-- "an erase list is not empty, lies in one bank (a chip erase may span all), and holds no protected block; the block in hand is listed"
+abbrev pub lists : List Edge
+lists =
+    edge (doing (Erasing (eraseOf (only 8) 8 1))) (doing (Erasing (eraseOf emptyOf 8 1)))
+    ∷ edge (doing (Erasing (eraseOf (two 8 38) 8 1))) (doing (Erasing (eraseOf (two 8 39) 8 1)))
+    ∷ edge (doing (ChipErasing (eraseOf (two 8 39) 8 1))) (doing (ChipErasing (eraseOf (two 8 39) 9 1)))
+    ∷ edge (guarding (Erasing (eraseOf (two 8 9) 8 1)) (bits (only 10) emptyOf false)) (guarding (Erasing (eraseOf (two 8 9) 8 1)) (bits (only 9) emptyOf false))
+    ∷ edge (guarding (ChipErasing (eraseOf (two 8 9) 8 1)) (bits emptyOf (only 10) false)) (guarding (ChipErasing (eraseOf (two 8 9) 8 1)) (bits emptyOf (only 9) false))
+    ∷ edge (doing (Erasing (eraseOf (two 8 10) 10 1))) (doing (Erasing (eraseOf (two 8 10) 9 1)))
+    ∷ []
+
+-- "in the window it is the lowest"; past it those listed below count as finished
+abbrev pub windows : List Edge
+windows =
+    edge (doing (Window (eraseOf (two 8 9) 8 50))) (doing (Window (eraseOf (two 8 9) 9 50)))
+    ∷ edge (doing (Erasing (eraseOf (two 8 9) 9 1))) (doing (Window (eraseOf (two 8 9) 9 1)))
+    ∷ []
+
+-- "time left is from 1 to the full time"; of a window "its own time left from 1 to 50"
+abbrev pub timed : (ℕ → Operation) → (full : ℕ) → (more : ℕ) → List Edge
+timed o full more = edge (doing (o 1)) (doing (o 0)) ∷ edge (doing (o full)) (doing (o more)) ∷ []
+
+abbrev pub times : List Edge
+times =
+    timed (λ t. Programming (programAt 64 t)) 6 7
+    ++ timed (λ t. ProgramSuspended (programAt 64 t)) 6 7
+    ++ timed (λ t. Window (eraseOf (only 8) 8 t)) 50 51
+    ++ timed (λ t. Erasing (eraseOf (only 8) 8 t)) 700000 700001
+    ++ timed (λ t. EraseSuspended (suspended (eraseOf (only 8) 8 t) Nothing)) 700000 700001
+    ++ timed (λ t. EraseSuspended (suspended (eraseOf (only 8) 8 1) (Runs (programAt 128 t)))) 6 7
+    ++ timed (λ t. ChipErasing (eraseOf (only 8) 8 t)) 500000 500001
+
+-- "a program's block is unprotected and not on a suspended erase list"
+abbrev pub programsFree : List Edge
+programsFree =
+    edge (guarding (Programming (programAt 64 1)) (bits (only 9) emptyOf false)) (guarding (Programming (programAt 64 1)) (bits (only 8) emptyOf false))
+    ∷ edge (guarding (Programming (programAt 64 1)) (bits emptyOf (only 9) false)) (guarding (Programming (programAt 64 1)) (bits emptyOf (only 8) false))
+    ∷ edge (resting Ground (Runs (programAt 128 1))) (resting Ground (Runs (programAt 127 1)))
+    ∷ []
+
+-- "no command is half entered and no identity or 58H reading is on while an operation runs; in suspension none is half entered past
+-- 80H, 48H or 60H, nor past A0H in a suspended program"
+abbrev pub commands : List Edge
+commands =
+    edge (doing (Programming (programAt 64 1))) (standing (Entering Unlock) (Programming (programAt 64 1)) freshBits)
+    ∷ edge (standing (Reads (Identity 0)) Idle freshBits) (standing (Reads (Identity 0)) (Erasing (eraseOf (only 8) 8 1)) freshBits)
+    ∷ edge (resting (Reads Dybs) Nothing) (resting (Reads Dybs) (Runs (programAt 128 1)))
+    ∷ edge (resting (Entering Unlocked) Nothing) (resting (Entering EraseSetup) Nothing)
+    ∷ edge (resting (Entering ProgramData) Nothing) (resting (Entering DybData) Nothing)
+    ∷ edge (resting (Entering Unlock) Nothing) (resting (Entering PpbSetup) Nothing)
+    ∷ edge (resting (Reads (Identity 3)) Nothing) (resting (Entering PpbClearing) Nothing)
+    ∷ edge (standing (Entering Unlocked) (ProgramSuspended (programAt 64 1)) freshBits) (standing (Entering ProgramData) (ProgramSuspended (programAt 64 1)) freshBits)
+    ∷ []
+
+abbrev pub edges : List Edge
+edges = meters ++ ranges ++ lists ++ windows ++ times ++ programsFree ++ commands
+
+-- within is sound, and beyond is not
+abbrev pub JudgedRight : Type 0
+JudgedRight = map judged edges ≡ map (λ (e : Edge). true ∷ false ∷ []) edges
