@@ -1,3 +1,4 @@
 pub mod Events
 pub mod Deeds
+pub mod Tells
 pub mod Worked

@@ -1,12 +1,13 @@
--- A script's bytes and the device: each line does what it means, one after the other.
-use Prim.Native.Nat.{ℕ}
+-- A script's bytes, the device and the answers: each line does what it means and is answered, one after the other.
+use Prim.Native.Nat.{ℕ, _+_, _%_, _^_}
 use mathlib.Core.Bool.{Bool, true, false}
-use mathlib.Core.List.{List, [], _∷_}
+use mathlib.Core.List.{List, [], _∷_, _++_}
 use lib.Dec.{eqb}
 use Rattle.language.specs.Language.{Meaning, meaning}
 use Rattle.deeds.specs.Events.{State, state}
 use Rattle.deeds.specs.Deeds.{does}
-use Rattle.playing.specs.Runs.{Run, ended}
+use Rattle.deeds.specs.Tells.{tells, lastLine}
+use Rattle.playing.specs.Runs.{Run, ended, answered, runOver, toldOver}
 
 abbrev pub goesOn : (ends : Bool) (line : List ℕ → Meaning) (byte : ℕ) (rest : (List ℕ → Meaning) → State → State) → State → State
 goesOn true line byte rest s = rest meaning (does (line []) (s .device) (s .cells))
@@ -20,6 +21,36 @@ playsFrom line (b ∷ bytes) s = goesOn (eqb b 10) line b (λ next. playsFrom ne
 abbrev pub plays : (bytes : List ℕ) → State → State
 plays bytes s = playsFrom meaning bytes s
 
--- what a run leaves when its input ends, which ends a last line as an LF does
+-- ---- the answers
+
+abbrev pub answersOn : (ends : Bool) (line : List ℕ → Meaning) (number byte : ℕ) (rest : (List ℕ → Meaning) → ℕ → State → List ℕ) → State → List ℕ
+answersOn true line n byte rest s =
+    tells (line []) n (s .device) (s .cells) ++ rest meaning ((n + 1) % 2 ^ 64) (does (line []) (s .device) (s .cells))
+answersOn false line n byte rest s = rest (λ bytes. line (byte ∷ bytes)) n s
+
+-- the device's last line, "at the end"
+abbrev pub lastOf : State → List ℕ
+lastOf s = lastLine (s .device) (s .cells)
+
+-- from a line of this number on; a line's number is of 64 bits
+unfoldable pub answersFrom : (line : List ℕ → Meaning) (number : ℕ) (bytes : List ℕ) → State → List ℕ
+answersFrom line n [] s = tells (line []) n (s .device) (s .cells) ++ lastOf (does (line []) (s .device) (s .cells))
+answersFrom line n (b ∷ bytes) s = answersOn (eqb b 10) line n b (λ next m. answersFrom next m bytes) s
+
+-- all that is written for a script
+abbrev pub answers : (bytes : List ℕ) → State → List ℕ
+answers bytes s = answersFrom meaning 1 bytes s
+
+-- ---- the end of the input, which ends a last line as an LF does
+
+-- what a run leaves
 abbrev pub left : Run → State
 left s = state (ended s .replay .device) (ended s .cells)
+
+-- and what it is answered with there
+abbrev pub closing : Run → List ℕ
+closing s = answered s ++ lastOf (left s)
+
+-- all that a run over these bytes tells
+abbrev pub told : Run → (bytes : List ℕ) → List ℕ
+told s bytes = toldOver s bytes ++ closing (runOver s bytes)
