@@ -18,8 +18,8 @@ use Rattle.conformance.proofs.LineBytes.{reads-meaning, fed-size, ended-size, e
 use Rattle.deeds.specs.Events.{State, state}
 use Rattle.deeds.specs.Deeds.{does}
 use Rattle.deeds.specs.Tells.{tells}
-use Rattle.playing.specs.Runs.{run, replay, begun, ended, fed, runOver, answered, toldOver}
-use Rattle.playing.specs.Plays.{goesOn, playsFrom, plays, left, answersOn, answersFrom, answers, closing, told}
+use Rattle.playing.specs.Runs.{run, replay, begun, ended, fed, runOver, answered, toldOver, left, closing, told}
+use Rattle.deeds.specs.Plays.{goesOn, playsFrom, plays, answersOn, answersFrom, answers}
 
 -- a line that ends does what the reader makes of it
 ended-does : (r : Device) (l : Line) (n : ℕ) (cells words : List ℕ) → left (run (replay r l n) cells words) ≡ does (readFrom l words []) r cells

@@ -10,8 +10,10 @@ use Rattle.script.specs.declared.Line.{Line}
 use Rattle.script.specs.Lines.{noLine, fedLine, fedWords, endedOrder, endedWords}
 use Rattle.playing.specs.declared.Replay.{Replay}
 use Rattle.language.specs.Orders.{seen}
+use Rattle.deeds.specs.Events.{State, state}
 use Rattle.deeds.specs.Deeds.{does}
 use Rattle.deeds.specs.Tells.{tells}
+use Rattle.deeds.specs.Plays.{lastOf}
 
 abbrev pub replay : Device → Line → (number : ℕ) → Replay
 replay r l n = record { device = r; line = l; number = n }
@@ -58,3 +60,17 @@ runOver s (b ∷ bytes) = runOver (if eqb b 10 then ended s else fed s b) bytes
 unfoldable pub toldOver : Run → (bytes : List ℕ) → List ℕ
 toldOver s [] = []
 toldOver s (b ∷ bytes) = (if eqb b 10 then answered s else []) ++ toldOver (if eqb b 10 then ended s else fed s b) bytes
+
+-- ---- the end of the input, which ends a last line as an LF does
+
+-- what a run leaves
+abbrev pub left : Run → State
+left s = state (ended s .replay .device) (ended s .cells)
+
+-- and what it is answered with there
+abbrev pub closing : Run → List ℕ
+closing s = answered s ++ lastOf (left s)
+
+-- all that a run over these bytes tells
+abbrev pub told : Run → (bytes : List ℕ) → List ℕ
+told s bytes = toldOver s bytes ++ closing (runOver s bytes)

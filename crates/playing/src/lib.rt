@@ -3,8 +3,7 @@ ghost use mathlib.Core.Path.{_≡_};
 ghost use Prim.Native.Nat.{_*_, _≤_};
 ghost use lib.ListN.{length};
 ghost use Rattle.printing.specs.Put.{Put};
-ghost use Rattle.playing.specs.Runs.{begun, run, runOver, toldOver};
-ghost use Rattle.playing.specs.Plays.{closing};
+ghost use Rattle.playing.specs.Runs.{begun, run, runOver, toldOver, closing};
 use plain::Device;
 use script::Line;
 

@@ -4,10 +4,9 @@ use mathlib.Core.Bool.{Bool, true, false}
 use mathlib.Core.List.{List, [], _∷_, _++_}
 use lib.Dec.{eqb}
 use Rattle.language.specs.Language.{Meaning, meaning}
-use Rattle.deeds.specs.Events.{State, state}
+use Rattle.deeds.specs.Events.{State}
 use Rattle.deeds.specs.Deeds.{does}
 use Rattle.deeds.specs.Tells.{tells, lastLine}
-use Rattle.playing.specs.Runs.{Run, ended, answered, runOver, toldOver}
 
 abbrev pub goesOn : (ends : Bool) (line : List ℕ → Meaning) (byte : ℕ) (rest : (List ℕ → Meaning) → State → State) → State → State
 goesOn true line byte rest s = rest meaning (does (line []) (s .device) (s .cells))
@@ -40,17 +39,3 @@ answersFrom line n (b ∷ bytes) s = answersOn (eqb b 10) line n b (λ next m. a
 -- all that is written for a script
 abbrev pub answers : (bytes : List ℕ) → State → List ℕ
 answers bytes s = answersFrom meaning 1 bytes s
-
--- ---- the end of the input, which ends a last line as an LF does
-
--- what a run leaves
-abbrev pub left : Run → State
-left s = state (ended s .replay .device) (ended s .cells)
-
--- and what it is answered with there
-abbrev pub closing : Run → List ℕ
-closing s = answered s ++ lastOf (left s)
-
--- all that a run over these bytes tells
-abbrev pub told : Run → (bytes : List ℕ) → List ℕ
-told s bytes = toldOver s bytes ++ closing (runOver s bytes)
