@@ -1,8 +1,8 @@
--- The run over a script's bytes leaves the device and the cells that the language and the plain machine tell.
-use Prim.Native.Nat.{ℕ}
+-- The run over a script's bytes leaves the device and the cells, and gives the answers, that the language and the plain machine tell.
+use Prim.Native.Nat.{ℕ, _+_, _%_, _^_}
 use mathlib.Core.Bool.{Bool, true, false}
 use mathlib.Core.Path.{_≡_, refl, ap, _∙_}
-use mathlib.Core.List.{List, [], _∷_}
+use mathlib.Core.List.{List, [], _∷_, _++_, append-assoc}
 use native.Mathlib.Omega.{arith}
 use lib.Dec.{eqb}
 use lib.ListN.{length}
@@ -17,8 +17,9 @@ use Rattle.conformance.specs.Reading.{readFrom}
 use Rattle.conformance.proofs.LineBytes.{reads-meaning, fed-size, ended-size, ended-within}
 use Rattle.deeds.specs.Events.{State, state}
 use Rattle.deeds.specs.Deeds.{does}
-use Rattle.playing.specs.Runs.{run, replay, begun, ended, fed, runOver}
-use Rattle.playing.specs.Plays.{goesOn, playsFrom, plays, left}
+use Rattle.deeds.specs.Tells.{tells}
+use Rattle.playing.specs.Runs.{run, replay, begun, ended, fed, runOver, answered, toldOver, left, closing, told}
+use Rattle.deeds.specs.Plays.{goesOn, playsFrom, plays, answersOn, answersFrom, answers}
 
 -- a line that ends does what the reader makes of it
 ended-does : (r : Device) (l : Line) (n : ℕ) (cells words : List ℕ) → left (run (replay r l n) cells words) ≡ does (readFrom l words []) r cells
@@ -65,3 +66,49 @@ pub script-plays : (bytes cells words : List ℕ) → length words ≡ 16384 →
 script-plays bytes cells words size p =
     plays-on bytes fresh noLine 1 cells words size p
     ∙ same-plays bytes (readFrom noLine words) meaning (state fresh cells) p (λ rest q. reads-meaning words rest size q)
+
+-- ---- the same of the answers
+
+same-answers : (bytes : List ℕ) (f g : List ℕ → Meaning) (n : ℕ) (s : State) → Bytes bytes → ((rest : List ℕ) → Bytes rest → f rest ≡ g rest)
+    → answersFrom f n bytes s ≡ answersFrom g n bytes s
+unfolding answersFrom
+same-answers [] f g n s p same = rw (same [] tt)
+same-answers (b ∷ bytes) f g n s p same =
+    by (eqb b 10) (same-answers bytes (λ rest. f (b ∷ rest)) (λ rest. g (b ∷ rest)) n s (p .1) (λ rest q. same (b ∷ rest) (p .0, q)))
+  where
+    by : (e : Bool) → answersFrom (λ rest. f (b ∷ rest)) n bytes s ≡ answersFrom (λ rest. g (b ∷ rest)) n bytes s
+        → answersOn e f n b (λ next m. answersFrom next m bytes) s ≡ answersOn e g n b (λ next m. answersFrom next m bytes) s
+    by true go = rw (same [] tt)
+    by false go = go
+
+answers-on : (bytes : List ℕ) (r : Device) (l : Line) (n : ℕ) (cells words : List ℕ) → length words ≡ 16384 → Bytes bytes
+    → told (run (replay r l n) cells words) bytes ≡ answersFrom (readFrom l words) n bytes (state r cells)
+unfolding runOver toldOver answersFrom ended fed answered readFrom
+answers-on [] r l n cells words size p = refl
+answers-on (b ∷ bytes) r l n cells words size p =
+    by (eqb b 10)
+    (λ s m stored held. answers-on bytes (s .device) noLine m (s .cells) stored held (p .1))
+    (answers-on bytes r (fedLine l b (length words)) n cells (fedWords l b words) (fed-size l b words ∙ size) (p .1))
+  where
+    by : (e : Bool)
+        → ((s : State) (m : ℕ) (stored : List ℕ) → length stored ≡ 16384 → told (run (replay (s .device) noLine m) (s .cells) stored) bytes ≡ answersFrom (readFrom noLine stored) m bytes s)
+        → told (fed (run (replay r l n) cells words) b) bytes ≡ answersFrom (readFrom (fedLine l b (length words)) (fedWords l b words)) n bytes (state r cells)
+        → (if e then answered (run (replay r l n) cells words) else [])
+        ++ toldOver (if e then ended (run (replay r l n) cells words) else fed (run (replay r l n) cells words) b) bytes
+        ++ closing (runOver (if e then ended (run (replay r l n) cells words) else fed (run (replay r l n) cells words) b) bytes)
+        ≡ answersOn e (readFrom l words) n b (λ next m. answersFrom next m bytes) (state r cells)
+    by true next on =
+        let s = left (run (replay r l n) cells words) in
+        let m = (n + 1) % 2 ^ 64 in
+        let held = ended-size l words ∙ size in
+        rw append-assoc
+        (ap (λ (rest : List ℕ). tells (readFrom l words []) n r cells ++ rest)
+        (next s m (endedWords l words) held
+        ∙ same-answers bytes (readFrom noLine (endedWords l words)) meaning m s (p .1) (λ rest q. reads-meaning (endedWords l words) rest held q)))
+    by false next on = on
+
+-- ---- the whole: what is written for a script, to the byte
+pub script-answers : (bytes cells words : List ℕ) → length words ≡ 16384 → Bytes bytes → told (run begun cells words) bytes ≡ answers bytes (state fresh cells)
+script-answers bytes cells words size p =
+    answers-on bytes fresh noLine 1 cells words size p
+    ∙ same-answers bytes (readFrom noLine words) meaning 1 (state fresh cells) p (λ rest q. reads-meaning words rest size q)

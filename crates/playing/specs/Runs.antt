@@ -1,6 +1,6 @@
--- A script's run, byte by byte: what the device, its cells and the line under way are.
+-- A script's run, byte by byte: what the device, its cells and the line under way are, and what is told.
 use Prim.Native.Nat.{ℕ, _+_, _%_, _^_}
-use mathlib.Core.List.{List, [], _∷_}
+use mathlib.Core.List.{List, [], _∷_, _++_}
 use lib.Dec.{eqb}
 use lib.ListN.{length}
 use Rattle.plain.specs.declared.Device.{Device}
@@ -10,7 +10,10 @@ use Rattle.script.specs.declared.Line.{Line}
 use Rattle.script.specs.Lines.{noLine, fedLine, fedWords, endedOrder, endedWords}
 use Rattle.playing.specs.declared.Replay.{Replay}
 use Rattle.language.specs.Orders.{seen}
+use Rattle.deeds.specs.Events.{State, state}
 use Rattle.deeds.specs.Deeds.{does}
+use Rattle.deeds.specs.Tells.{tells}
+use Rattle.deeds.specs.Plays.{lastOf}
 
 abbrev pub replay : Device → Line → (number : ℕ) → Replay
 replay r l n = record { device = r; line = l; number = n }
@@ -36,6 +39,12 @@ ended s =
     let done = does (seen (endedOrder (p .line) (length (s .words))) words) (p .device) (s .cells) in
     run (replay (done .device) noLine ((p .number + 1) % 2 ^ 64)) (done .cells) words
 
+-- and what it is answered with
+unfoldable pub answered : Run → List ℕ
+answered s =
+    let p = s .replay in
+    tells (seen (endedOrder (p .line) (length (s .words))) (endedWords (p .line) (s .words))) (p .number) (p .device) (s .cells)
+
 -- a byte of it
 unfoldable pub fed : Run → (byte : ℕ) → Run
 fed s b =
@@ -46,3 +55,22 @@ fed s b =
 unfoldable pub runOver : Run → (bytes : List ℕ) → Run
 runOver s [] = s
 runOver s (b ∷ bytes) = runOver (if eqb b 10 then ended s else fed s b) bytes
+
+-- the answers, one after the other
+unfoldable pub toldOver : Run → (bytes : List ℕ) → List ℕ
+toldOver s [] = []
+toldOver s (b ∷ bytes) = (if eqb b 10 then answered s else []) ++ toldOver (if eqb b 10 then ended s else fed s b) bytes
+
+-- ---- the end of the input, which ends a last line as an LF does
+
+-- what a run leaves
+abbrev pub left : Run → State
+left s = state (ended s .replay .device) (ended s .cells)
+
+-- and what it is answered with there
+abbrev pub closing : Run → List ℕ
+closing s = answered s ++ lastOf (left s)
+
+-- all that a run over these bytes tells
+abbrev pub told : Run → (bytes : List ℕ) → List ℕ
+told s bytes = toldOver s bytes ++ closing (runOver s bytes)

@@ -1,30 +1,36 @@
 // Replays an event script from standard input on the small part, and writes the answers to standard output.
 
-// Nothing says that the input ends, and a proved loop has to: its turns are more than any run takes.
+// Nothing says that the input ends, and a proved loop has to: its turns are more than any run takes. A line has at most 256
+// bytes of answers, and an LF of its own: so those to 256 bytes of input have room.
 fn main() {
     let mut memory = [0xffffu16; 16384];
     let cells: &mut [u16] = &mut memory;
     let mut room = [0u16; 16384];
     let words: &mut [u16] = &mut room;
-    let mut input = io::large_buffer();
+    let mut input = [0u8; 256];
+    let mut answers = io::large_buffer();
     let mut replay = playing::fresh();
     let mut turns = u64::MAX;
     while 0 < turns {
         let got = libc::read(libc::STDIN_FILENO, &mut input);
         if got < 0 {
-            telling::unread();
+            // No answer: a read of the script failed, and the end is not told.
+            io::write_all(
+                libc::STDERR_FILENO,
+                b"replay: the script could not be read to its end\n",
+            );
             return;
         }
         if got == 0 {
-            // The end of the input ends a last line as an LF does.
-            let last = playing::replayed(replay, b"\n", cells, words);
-            let device = last.device;
-            let meter = device.meter;
-            telling::end(meter.clock, meter.charge, cells);
+            let end = playing::finished(replay, cells, words, &mut answers);
+            io::write_all(libc::STDOUT_FILENO, &answers[..end]);
             return;
         }
         let count = io::count(got, &input);
-        replay = playing::replayed(replay, &input[..count], cells, words);
+        let played = playing::replayed(replay, &input[..count], cells, words, &mut answers);
+        let end = played.end;
+        io::write_all(libc::STDOUT_FILENO, &answers[..end]);
+        replay = played.replay;
         turns -= 1;
     }
 }

@@ -1,72 +1,77 @@
-// The lines of answers, each written by one call.
-mod refusals;
-mod text;
-
+// The lines of answers: each function puts its line into a lent buffer from `at` on, and gives the place behind it.
+ghost use Prim.Native.Nat.{_+_, _≤_};
+ghost use lib.ListN.{length};
+ghost use Rattle.printing.specs.Put.{Put};
+ghost use Rattle.telling.specs.Lines.{eventLine, malformedLine, blockLine, wordLine, endLine};
 use plain::Refusal;
 
-// "The script's line number, the refusal's number and name, the word as four hexadecimal digits, clock, charge."
-pub fn event(number: u64, refusal: Refusal, word: u16, clock: u64, charge: u64) {
-    let mut line = [0u8; 128];
-    let mut at = text::decimal(&mut line, 0, number);
-    let answer = answers::number_of(refusal);
-    at = text::number(&mut line, at, answer);
-    at = refusals::name(&mut line, at, answer);
-    at = text::word(&mut line, at, word);
-    at = text::number(&mut line, at, clock);
-    at = text::number(&mut line, at, charge);
-    at = text::bytes(&mut line, at, b"\n");
-    text::write(line, at);
+pub fn event(
+    out: &mut [u8],
+    at: usize,
+    line: u64,
+    refusal: Refusal,
+    word: u16,
+    clock: u64,
+    charge: u64,
+) -> usize
+    requires { ⌜ at + 99 ≤ length (now out) ⌝ }
+    ensures { λ r. ⌜ Put (now (out .entry)) at (now (out .exit)) r (eventLine line refusal word clock charge) ⌝ }
+    ensures { λ r. ⌜ r ≤ at + 99 ⌝ }
+{
+    let mut end = printing::decimal(out, at, line);
+    end = printing::number(out, end, answers::number_of(refusal));
+    end = refusals::name(out, end, refusal);
+    end = printing::word(out, end, word);
+    end = printing::number(out, end, clock);
+    end = printing::number(out, end, charge);
+    printing::bytes(out, end, b"\n")
 }
 
-// "Answered `LINE malformed`."
-pub fn malformed(number: u64) {
-    let mut line = [0u8; 128];
-    let mut at = text::decimal(&mut line, 0, number);
-    at = text::bytes(&mut line, at, b" malformed\n");
-    text::write(line, at);
+pub fn malformed(out: &mut [u8], at: usize, line: u64) -> usize
+    requires { ⌜ at + 31 ≤ length (now out) ⌝ }
+    ensures { λ r. ⌜ Put (now (out .entry)) at (now (out .exit)) r (malformedLine line) ⌝ }
+    ensures { λ r. ⌜ r ≤ at + 31 ⌝ }
+{
+    let end = printing::decimal(out, at, line);
+    printing::bytes(out, end, b" malformed\n")
 }
 
-// "`46 block 39 2048 2111` (block, first word, last word)".
-pub fn block(number: u64, block: usize, first: usize, last: usize) {
-    let mut line = [0u8; 128];
-    let mut at = text::decimal(&mut line, 0, number);
-    at = text::bytes(&mut line, at, b" block");
-    at = text::number(&mut line, at, block as u64);
-    at = text::number(&mut line, at, first as u64);
-    at = text::number(&mut line, at, last as u64);
-    at = text::bytes(&mut line, at, b"\n");
-    text::write(line, at);
+pub fn block(out: &mut [u8], at: usize, line: u64, block: usize, first: usize, last: usize) -> usize
+    requires { ⌜ at + 90 ≤ length (now out) ⌝ }
+    ensures { λ r. ⌜ Put (now (out .entry)) at (now (out .exit)) r (blockLine line block first last) ⌝ }
+    ensures { λ r. ⌜ r ≤ at + 90 ⌝ }
+{
+    let mut end = printing::decimal(out, at, line);
+    end = printing::bytes(out, end, b" block");
+    end = printing::number(out, end, block as u64);
+    end = printing::number(out, end, first as u64);
+    end = printing::number(out, end, last as u64);
+    printing::bytes(out, end, b"\n")
 }
 
-// "`46 word 3001 FFFF FF55` (address, before, after)".
-pub fn word(number: u64, address: usize, before: u16, after: u16) {
-    let mut line = [0u8; 128];
-    let mut at = text::decimal(&mut line, 0, number);
-    at = text::bytes(&mut line, at, b" word");
-    at = text::number(&mut line, at, address as u64);
-    at = text::word(&mut line, at, before);
-    at = text::word(&mut line, at, after);
-    at = text::bytes(&mut line, at, b"\n");
-    text::write(line, at);
+pub fn word(out: &mut [u8], at: usize, line: u64, address: usize, before: u16, after: u16) -> usize
+    requires { ⌜ at + 57 ≤ length (now out) ⌝ }
+    ensures { λ r. ⌜ Put (now (out .entry)) at (now (out .exit)) r (wordLine line address before after) ⌝ }
+    ensures { λ r. ⌜ r ≤ at + 57 ⌝ }
+{
+    let mut end = printing::decimal(out, at, line);
+    end = printing::bytes(out, end, b" word");
+    end = printing::number(out, end, address as u64);
+    end = printing::word(out, end, before);
+    end = printing::word(out, end, after);
+    printing::bytes(out, end, b"\n")
 }
 
-// "At the end, `end CLOCK CHARGE S1 S2`."
-pub fn end(clock: u64, charge: u64, cells: &[u16]) {
-    let sums = sums::sums_of(cells);
-    let mut line = [0u8; 128];
-    let mut at = text::bytes(&mut line, 0, b"end");
-    at = text::number(&mut line, at, clock);
-    at = text::number(&mut line, at, charge);
-    at = text::number(&mut line, at, sums.first);
-    at = text::number(&mut line, at, sums.second);
-    at = text::bytes(&mut line, at, b"\n");
-    text::write(line, at);
-}
-
-// No answer: a read of the script failed, and the end is not told.
-pub fn unread() {
-    io::write_all(
-        libc::STDERR_FILENO,
-        b"replay: the script could not be read to its end\n",
-    );
+// `first` and `second` are the two sums over the cells.
+pub fn end(out: &mut [u8], at: usize, clock: u64, charge: u64, first: u64, second: u64) -> usize
+    requires { ⌜ at + 88 ≤ length (now out) ⌝ }
+    ensures { λ r. ⌜ Put (now (out .entry)) at (now (out .exit)) r (endLine clock charge first second) ⌝ }
+    ensures { λ r. ⌜ r ≤ at + 88 ⌝ }
+{
+    let mut end = printing::bytes(out, at, b"end");
+    end = printing::number(out, end, clock);
+    end = printing::number(out, end, charge);
+    end = printing::number(out, end, first);
+    end = printing::number(out, end, second);
+    printing::bytes(out, end, b"\n")
 }

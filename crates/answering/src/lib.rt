@@ -1,0 +1,142 @@
+// The four events on the small part, each done and told: its lines are put into a lent buffer from `at` on.
+ghost use mathlib.Core.Path.{_≡_};
+ghost use Prim.Native.Nat.{_+_, _≤_};
+ghost use lib.ListN.{length};
+ghost use Rattle.language.specs.Language.{read as Line·read, write as Line·write, wait as Line·wait, cut as Line·cut};
+ghost use Rattle.printing.specs.Put.{Put};
+ghost use Rattle.deeds.specs.Deeds.{does};
+ghost use Rattle.deeds.specs.Tells.{tells, answerLine, lastLine};
+use geometry::Part;
+use plain::Answer;
+use plain::Device;
+
+// The record afterwards, and the place behind the lines.
+pub struct Told {
+    pub device: Device,
+    pub end: usize,
+}
+
+pub fn read(
+    device: Device,
+    cells: &[u16],
+    address: usize,
+    line: u64,
+    out: &mut [u8],
+    at: usize,
+) -> Told
+    requires { ⌜ at + 99 ≤ length (now out) ⌝ }
+    ensures { λ r. ⌜ r .device ≡ does (Line·read address) device (now (cells .entry)) .device ⌝ }
+    ensures { λ r. ⌜ Put (now (out .entry)) at (now (out .exit)) (r .end) (tells (Line·read address) line device (now (cells .entry))) ⌝ }
+    ensures { λ r. ⌜ r .end ≤ at + 99 ⌝ }
+{
+    let answer = machine::read(Part::Small, device, cells, address);
+    answered(answer, line, out, at)
+}
+
+pub fn write(
+    device: Device,
+    cells: &[u16],
+    address: usize,
+    word: u16,
+    line: u64,
+    out: &mut [u8],
+    at: usize,
+) -> Told
+    requires { ⌜ at + 99 ≤ length (now out) ⌝ }
+    ensures { λ r. ⌜ r .device ≡ does (Line·write address word) device (now (cells .entry)) .device ⌝ }
+    ensures { λ r. ⌜ Put (now (out .entry)) at (now (out .exit)) (r .end) (tells (Line·write address word) line device (now (cells .entry))) ⌝ }
+    ensures { λ r. ⌜ r .end ≤ at + 99 ⌝ }
+{
+    let answer = machine::write(Part::Small, device, cells, address, word);
+    answered(answer, line, out, at)
+}
+
+pub fn wait(
+    device: Device,
+    cells: &mut [u16],
+    microseconds: u64,
+    line: u64,
+    out: &mut [u8],
+    at: usize,
+) -> Told
+    requires { ⌜ at + 99 ≤ length (now out) ⌝ }
+    ensures { λ r. ⌜ r .device ≡ does (Line·wait microseconds) device (now (cells .entry)) .device ⌝ }
+    ensures { λ r. ⌜ now (cells .exit) ≡ does (Line·wait microseconds) device (now (cells .entry)) .cells ⌝ }
+    ensures { λ r. ⌜ Put (now (out .entry)) at (now (out .exit)) (r .end) (tells (Line·wait microseconds) line device (now (cells .entry))) ⌝ }
+    ensures { λ r. ⌜ r .end ≤ at + 99 ⌝ }
+{
+    let answer = machine::wait(Part::Small, device, cells, microseconds);
+    answered(answer, line, out, at)
+}
+
+// "After an accepted cut comes a line for each exception that it made."
+pub fn cut(
+    device: Device,
+    cells: &mut [u16],
+    debris: &[u16],
+    line: u64,
+    out: &mut [u8],
+    at: usize,
+) -> Told
+    requires { ⌜ at + 246 ≤ length (now out) ⌝ }
+    ensures { λ r. ⌜ r .device ≡ does (Line·cut (now (debris .entry))) device (now (cells .entry)) .device ⌝ }
+    ensures { λ r. ⌜ now (cells .exit) ≡ does (Line·cut (now (debris .entry))) device (now (cells .entry)) .cells ⌝ }
+    ensures { λ r. ⌜ Put (now (out .entry)) at (now (out .exit)) (r .end) (tells (Line·cut (now (debris .entry))) line device (now (cells .entry))) ⌝ }
+    ensures { λ r. ⌜ r .end ≤ at + 246 ⌝ }
+{
+    let exposed = machine::exposed(Part::Small, device);
+    let block = exposed.block;
+    let word = exposed.word;
+    let before = exceptions::cell_at(cells, word);
+    let answer = machine::cut(Part::Small, device, cells, debris);
+    let refusal = answer.refusal;
+    let told = answered(answer, line, out, at);
+    if answers::number_of(refusal) != 0 {
+        return told;
+    }
+    let left = told.device;
+    let told_to = told.end;
+    let after = exceptions::cell_at(cells, word);
+    let behind = exceptions::block(out, told_to, line, block);
+    let end = exceptions::word(out, behind, line, word, before, after);
+    Told {
+        device: left,
+        end: end,
+    }
+}
+
+// "Each event is answered by a line."
+fn answered(answer: Answer, line: u64, out: &mut [u8], at: usize) -> Told
+    requires { ⌜ at + 99 ≤ length (now out) ⌝ }
+    ensures { λ r. ⌜ r .device ≡ answer .device ⌝ }
+    ensures { λ r. ⌜ Put (now (out .entry)) at (now (out .exit)) (r .end) (answerLine line answer) ⌝ }
+    ensures { λ r. ⌜ r .end ≤ at + 99 ⌝ }
+{
+    let refusal = answer.refusal;
+    let device = answer.device;
+    let meter = device.meter;
+    let end = telling::event(
+        out,
+        at,
+        line,
+        refusal,
+        answer.word,
+        meter.clock,
+        meter.charge,
+    );
+    Told {
+        device: device,
+        end: end,
+    }
+}
+
+// "At the end, `end CLOCK CHARGE S1 S2`."
+pub fn last(device: Device, cells: &[u16], out: &mut [u8], at: usize) -> usize
+    requires { ⌜ at + 88 ≤ length (now out) ⌝ }
+    ensures { λ r. ⌜ Put (now (out .entry)) at (now (out .exit)) r (lastLine device (now (cells .entry))) ⌝ }
+    ensures { λ r. ⌜ r ≤ at + 88 ⌝ }
+{
+    let meter = device.meter;
+    let sums = sums::sums_of(cells);
+    telling::end(out, at, meter.clock, meter.charge, sums.first, sums.second)
+}

@@ -1,0 +1,62 @@
+-- A script and its answers, to the byte: bench row d, an erase of block 39 that is cut off, and lines of every other kind.
+use Prim.Native.Nat.{ℕ}
+use mathlib.Core.Path.{_≡_}
+use mathlib.Core.List.{List, _++_}
+use lib.ListN.{replicate}
+use Rattle.plain.specs.Record.{fresh}
+use Rattle.printing.specs.Text.{ascii}
+use Rattle.deeds.specs.Events.{state}
+use Rattle.deeds.specs.Plays.{answers}
+
+abbrev pub script : List ℕ
+script =
+    ascii "write 0x555 0xAA\n"
+    ++ ascii "write 0x2AA 0x55\n"
+    ++ ascii "write 0x555 0xA0\n"
+    ++ ascii "write 100 0x1234\n"
+    ++ ascii "wait 5\n"
+    ++ ascii "read 100\n"
+    ++ ascii "cut\n"
+    ++ ascii "cut 0xFF00\n"
+    ++ ascii "read 16384\n"
+    ++ ascii "fresh\n"
+    ++ ascii "# block 39 in hand\n"
+    ++ ascii "cell 2111 0x1234\n"
+    ++ ascii "write 0x555 0xAA\n"
+    ++ ascii "write 0x2AA 0x55\n"
+    ++ ascii "write 0x555 0x80\n"
+    ++ ascii "write 0x555 0xAA\n"
+    ++ ascii "write 0x2AA 0x55\n"
+    ++ ascii "write 2048 0x30\n"
+    ++ ascii "wait 51\n"
+    ++ ascii "erase 2048\n"
+    ++ ascii "cut 64*0xA5A5"
+
+abbrev pub answered : List ℕ
+answered =
+    ascii "1 0 DONE 0000 0 0\n"
+    ++ ascii "2 0 DONE 0000 0 0\n"
+    ++ ascii "3 0 DONE 0000 0 0\n"
+    ++ ascii "4 0 DONE 0000 0 0\n"
+    ++ ascii "5 0 DONE 0000 5 85000\n"
+    ++ ascii "6 0 DONE 00C4 5 85000\n"
+    ++ ascii "7 5 DEBRIS 0000 5 85000\n"
+    ++ ascii "8 0 DONE 0000 5 85000\n"
+    ++ ascii "8 word 100 FFFF FF34\n"
+    ++ ascii "9 3 ADDRESS 0000 5 85000\n"
+    ++ ascii "end 5 85000 32610 56519\n"
+    ++ ascii "13 0 DONE 0000 0 0\n"
+    ++ ascii "14 0 DONE 0000 0 0\n"
+    ++ ascii "15 0 DONE 0000 0 0\n"
+    ++ ascii "16 0 DONE 0000 0 0\n"
+    ++ ascii "17 0 DONE 0000 0 0\n"
+    ++ ascii "18 0 DONE 0000 0 0\n"
+    ++ ascii "19 0 DONE 0000 51 17750\n"
+    ++ ascii "20 malformed\n"
+    ++ ascii "21 0 DONE 0000 51 17750\n"
+    ++ ascii "21 block 39 2048 2111\n"
+    ++ ascii "end 51 17750 59476 56503\n"
+
+-- "The device is the small part, fresh, with all cells FFFFH."
+abbrev pub ScriptAnswered : Type 0
+ScriptAnswered = answers script (state fresh (replicate 16384 0xFFFF)) ≡ answered

@@ -1,0 +1,23 @@
+use mathlib.Core.Path.{_∙_}
+use native.Mathlib.Omega.{arith}
+use borrow.Author.Needs.{needs}
+use Rattle.printing.proofs.Puts.{put-then}
+use Rattle.playing.specs.Runs.{ended, answered}
+use Rattle.playing.proofs.finished.Statement.{statement}
+use Rattle.playing.proofs.finished.Tie as tie
+
+pub finished-spec : {M : Type 1} → statement M
+unfolding ended answered
+finished-spec =
+    tie.close
+    (tie.spec
+    (λ c κs. search needs)  -- ended-requires
+    (λ c κs. let e = c .before .before .before .before .before .ended in ((c .before .before .before .before .before .before .before .before .before .before .before .before .pre .0, rw (e .kept .1 .0) (e .ensures .1 .1)), omega (arith, c .before .before .before .before .before .before .before .before .before .before .before .before .pre .1)))  -- act-requires
+    (λ c κs. search needs)  -- last-requires
+    (λ c. search needs)  -- same-length
+    (λ c. search needs)  -- same-length-2
+    (λ c. search needs)  -- same-length-3
+    (λ c.
+    let a = c .before .before .before .before .before .before .before .before .before .before .act .ensures in
+    let e = c .before .before .before .before .before .before .before .before .before .before .before .before .before .before .before .before .ended .ensures in
+    rw (a .0, a .1 .0, e .0, e .1 .0) at (put-then (a .1 .1 .0) (c .before .before .last .ensures .0))))  -- returns

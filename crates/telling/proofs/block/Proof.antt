@@ -1,0 +1,22 @@
+use native.Mathlib.Omega.{arith}
+use borrow.Author.Needs.{needs}
+use Rattle.telling.specs.Lines.{blockLine}
+use Rattle.printing.proofs.Puts.{put-then}
+use Rattle.telling.proofs.block.Statement.{statement}
+use Rattle.telling.proofs.block.Tie as tie
+
+pub block-spec : {M : Type 1} → statement M
+unfolding blockLine
+block-spec =
+    tie.close
+    (tie.spec
+    (λ c κs. omega arith)  -- decimal-requires
+    (λ c. omega arith)  -- slice-aggregate-bytes
+    (λ c κs. omega arith)  -- bytes-requires
+    (λ c κs. omega arith)  -- number-requires
+    (λ c κs. omega arith)  -- number-requires-2
+    (λ c κs. omega arith)  -- number-requires-3
+    (λ c. omega arith)  -- slice-aggregate-bytes-2
+    (λ c κs. omega arith)  -- bytes-requires-2
+    (λ c. omega arith)  -- same-length
+    (λ c. (put-then (put-then (put-then (put-then (put-then (c .before .before .before .before .before .before .before .before .before .before .before .before .before .before .before .before .before .before .before .before .before .before .before .before .decimal .ensures .0) (c .before .before .before .before .before .before .before .before .before .before .before .before .before .before .before .before .before .before .before .bytes .ensures)) (c .before .before .before .before .before .before .before .before .before .before .before .before .before .before .before .number .ensures .0)) (c .before .before .before .before .before .before .before .before .before .before .before .number2 .ensures .0)) (c .before .before .before .before .before .before .before .number3 .ensures .0)) (c .before .before .bytes2 .ensures), omega arith)))  -- returns
