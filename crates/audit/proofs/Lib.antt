@@ -11,3 +11,4 @@ pub mod Calls
 pub mod CallPromises
 pub mod CallAsked
 pub mod SuspendedProgram
+pub mod Replayed

@@ -4,3 +4,4 @@ pub mod Performed
 pub mod Promises
 pub mod Called
 pub mod CallPromises
+pub mod Replayed

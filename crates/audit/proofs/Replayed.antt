@@ -1,0 +1,35 @@
+-- What the replay writes is what a script's lines mean and the plain machine answers.
+use Prim.Native.Nat.{ℕ}
+use mathlib.Core.Path.{_≡_, refl, sym, ap, _∙_}
+use mathlib.Core.List.{List, [], _∷_, _++_, append-assoc}
+use lib.Dec.{eqb}
+use Rattle.plain.specs.Choice.{if_then_else_}
+use Rattle.playing.specs.declared.Replay.{Replay}
+use Rattle.playing.specs.Runs.{Run, run, begun, ended, fed, answered, runOver, toldOver, closing, told}
+use Rattle.playing.proofs.Plays.{script-answers}
+use Rattle.audit.specs.Replayed.{Writes, ends, goes, joined, ReplayAnswers}
+
+-- a run over two parts is one over the first and one over the second
+runs-on : (s : Run) (one two : List ℕ) → runOver s (one ++ two) ≡ runOver (runOver s one) two
+unfolding runOver
+runs-on s [] two = refl
+runs-on s (b ∷ one) two = runs-on (if eqb b 10 then ended s else fed s b) one two
+
+tells-on : (s : Run) (one two : List ℕ) → toldOver s (one ++ two) ≡ toldOver s one ++ toldOver (runOver s one) two
+unfolding runOver toldOver
+tells-on s [] two = refl
+tells-on s (b ∷ one) two =
+    rw (tells-on (if eqb b 10 then ended s else fed s b) one two) (sym (append-assoc (if eqb b 10 then answered s else []) (toldOver (if eqb b 10 then ended s else fed s b) one) _))
+
+whole-on : (s : Run) (one two : List ℕ) → told s (one ++ two) ≡ toldOver s one ++ told (runOver s one) two
+whole-on s one two = rw (tells-on s one two, runs-on s one two) (append-assoc (toldOver s one) (toldOver (runOver s one) two) (closing (runOver (runOver s one) two)))
+
+writes-told : {r : Replay} {cells words : List ℕ} {parts : List (List ℕ)} {written : List ℕ} → Writes r cells words parts written → written ≡ told (run r cells words) (joined parts)
+unfolding runOver toldOver
+writes-told (ends t at by to n out cells′ words′ out′ d) = d .filled
+writes-told {r} {cells} {words} (goes t from at by to y out cells′ words′ out′ {part = part} {parts = parts} d w) =
+    rw (d .1 .filled, writes-told w, d .0) (sym (whole-on (run r cells words) part (joined parts)))
+
+pub replay-answers : ReplayAnswers
+replay-answers first cells words parts written is size bytes w =
+    writes-told w ∙ ap (λ (r : Replay). told (run r cells words) (joined parts)) is ∙ script-answers (joined parts) cells words size bytes
