@@ -1,6 +1,6 @@
 # What the roots rest on. Reads the sources' paths (crates/..), then the roots: `contracts FILE` for the public functions of a file,
-# `statement FILE NAME` for a theorem. A file of specs/ counts whole; of code a type's declaration and a function's contract
-# count, of a proof a statement. Writes `CRATE|FILES|LINES` by crate, and `kit|MODULE|NAMES`.
+# `statement FILE NAME` for a theorem. A file of specs/ counts whole; of code a type's declaration and a function's contract (its
+# signature, where a statement goes by what callers learn) count, of a proof a statement. Writes `CRATE|FILES|LINES` by crate, and `kit|MODULE|NAMES`.
 function words(s) { gsub(/[][(){},;:.]/, " ", s); return " " s " " }
 
 function load(f,    line, n) {
@@ -57,10 +57,10 @@ function follow(module, name,    p, n, i, c, f, last) {
     if (p[2] == "specs") whole(f)
     else if (load(f)) { locals(f); stated(f, name) }
     else {
-        # What callers of a function learn of it is its contract.
+        # By what callers of a function learn of it: whatever its contract says, the statement holds. Its arguments are handed over there.
         for (i = 3; i <= n; i++) if (p[i] !~ /^[A-Z]/) last = p[i]
         if (!((c, last) in function_in)) lost("the function " last " of " c)
-        else contract(function_in[c, last], last)
+        else signature(function_in[c, last], last)
     }
 }
 
@@ -98,15 +98,22 @@ function declared(c, type,    f, i, j, used, p, n) {
     for (i = 1; i <= n; i++) declared(c, p[i])
 }
 
-function contract(f, name,    i, j, used, p, n) {
-    if ((f, name) in seen) return
-    seen[f, name]
+# The lines of a function up to its contract, or up to its body.
+function head(f, name, end, what,    i, j, used, p, n) {
     i = j = function_at[f, name]
-    while (text[f, j + 1] !~ /^ *[{]$/ && text[f, j] !~ /[{]$/) j++
-    used = lines(f, i, j, "contracts")
+    while (text[f, j + 1] !~ end && text[f, j] !~ /[{]$/) j++
+    used = lines(f, i, j, what)
     n = split(used, p, " ")
     for (i = 1; i <= n; i++) declared(crate_of(f), p[i])
 }
+
+function contract(f, name) {
+    if ((f, name) in seen) return
+    seen[f, name]
+    head(f, name, "^ *[{]$", "contracts")
+}
+
+function signature(f, name) { if (!((f, name) in seen)) learnt[f, name] }
 
 # A theorem's statement, or a definition that stands among proofs, with the head of the module around it.
 function stated(f, name,    i, j, k, p, n, used, line, blanks) {
@@ -156,6 +163,7 @@ function locals(f,    i, line, p) {
 /^statement / { locals($2); stated($2, $3) }
 
 END {
+    for (l in learnt) if (!(l in seen)) { split(l, p, SUBSEP); head(p[1], p[2], "^ *([{]$|requires |ensures )", "signatures") }
     for (o = 1; o <= ordered; o++) {
         c = order[o]
         if (!sum[c]) continue
@@ -166,6 +174,7 @@ END {
             if ((c, file ".antt") in found) { cell = cell ", " file " " found[c, file ".antt"] }
         }
         if ((c, "types") in found) cell = cell ", types " found[c, "types"]
+        if ((c, "signatures") in found) cell = cell ", signatures " found[c, "signatures"]
         if ((c, "contracts") in found) cell = cell ", contracts " found[c, "contracts"]
         if ((c, "statements") in found) cell = cell ", statements " found[c, "statements"]
         print c "|" substr(cell, 3) "|" sum[c]
