@@ -8,9 +8,10 @@ use Rattle.blocks.specs.Blocks.{emptyOf, withOf}
 use Rattle.protection.specs.Protection.{bits, freshBits}
 use Rattle.plain.specs.declared.Inside.the-variants.{Runs}
 use Rattle.plain.specs.declared.Operation.{Operation}
-use Rattle.plain.specs.declared.Operation.the-variants.{Idle, Programming, Window, Erasing, EraseSuspended, ChipErasing}
+use Rattle.plain.specs.declared.Operation.the-variants.{Idle, Programming, ProgramSuspended, Window, Erasing, EraseSuspended, ChipErasing}
 use Rattle.plain.specs.declared.Command.the-variants.{Ground, Entering, Reads}
-use Rattle.plain.specs.declared.Cycle.the-variants.{Unlock, ProgramData, DybData, PpbSetting}
+use Rattle.plain.specs.declared.Cycle.{Cycle}
+use Rattle.plain.specs.declared.Cycle.the-variants.{Unlock, ProgramData, EraseSetup, EraseUnlock, EraseUnlocked, DybData, PpbSetup, PpbSetting, PpbClearing}
 use Rattle.plain.specs.declared.Reading.the-variants.{Identity}
 use Rattle.plain.specs.CommandRulings.{commandRulings}
 use Rattle.plain.specs.Events.{Event, read, write, wait, cut}
@@ -99,6 +100,34 @@ chargePastBound = runs (metered 1 17001) blank (refuses 1 (wait 0)) [] 1 17001
 abbrev clockPastLimit : Row
 clockPastLimit = runs (metered 100000000000001 0) blank (refuses 1 (wait 0)) [] 100000000000001 0
 
+-- a record that holds such an operation is not sound
+abbrev unsound : Operation → Row
+unsound o = runs (standing Ground o freshBits) blank (refuses 1 (read 0)) [] 0 0
+
+-- time left is from 1 to the full time, of the window to its own 50 µs
+abbrev noTimeLeft : Row
+noTimeLeft = unsound (Programming (program (writing 100 0x1234) 0 false))
+
+abbrev moreThanFullTime : Row
+moreThanFullTime = unsound (Programming (program (writing 100 0x1234) 7 false))
+
+abbrev windowPast50 : Row
+windowPast50 = unsound (Window (erase (only 8) 8 51 false false))
+
+-- the block in hand is listed, in the window the lowest, and gives the bank of the list
+abbrev handUnlisted : Row
+handUnlisted = unsound (Erasing (erase (only 8) 9 1 false false))
+
+abbrev windowNotLowest : Row
+windowNotLowest = unsound (Window (erase (withOf (only 8) 9) 9 50 false false))
+
+abbrev listOfTwoBanks : Row
+listOfTwoBanks = unsound (Erasing (erase (withOf (only 8) 39) 8 1 false false))
+
+-- a program inside a suspended erase lies off its list
+abbrev insideListed : Row
+insideListed = unsound (EraseSuspended (suspended (erase (only 8) 8 1 false false) (Runs (program (writing 100 0) 1 false))))
+
 -- a chip erase's list may be smaller than all unprotected blocks
 abbrev chipListSmaller : Row
 chipListSmaller =
@@ -117,12 +146,38 @@ halfEnteredInside =
     runs (standing (Entering Unlock) (EraseSuspended (suspended (erase (only 8) 8 1 false false) (Runs (program (writing 200 0) 1 false)))) freshBits) blank
     (refuses 1 (read 0)) [] 0 0
 
--- in a suspended erase A0H may be half entered, and 48H may not
+-- in a suspended erase A0H may be half entered
 abbrev pastA0Suspended : Row
 pastA0Suspended = runs (resting (Entering ProgramData)) blank (takes (write 3000 0 ∷ wait 6 ∷ [])) (holds 3000 0 ∷ []) 6 102000
 
+-- and in a suspended program it may not
+abbrev pastA0Program : Row
+pastA0Program = runs (standing (Entering ProgramData) (ProgramSuspended (program (writing 100 0) 6 false)) freshBits) blank (refuses 1 (read 0)) [] 0 0
+
+-- "past 80H, 48H or 60H" is every state after that third write
+abbrev pastThird : Cycle → Row
+pastThird c = runs (resting (Entering c)) blank (refuses 1 (read 0)) [] 0 0
+
+abbrev past80Suspended : Row
+past80Suspended = pastThird EraseSetup
+
+abbrev past80OneUnlock : Row
+past80OneUnlock = pastThird EraseUnlock
+
+abbrev past80TwoUnlocks : Row
+past80TwoUnlocks = pastThird EraseUnlocked
+
 abbrev past48Suspended : Row
-past48Suspended = runs (resting (Entering DybData)) blank (refuses 1 (write 3000 0)) [] 0 0
+past48Suspended = pastThird DybData
+
+abbrev past60Suspended : Row
+past60Suspended = pastThird PpbSetup
+
+abbrev past68Suspended : Row
+past68Suspended = pastThird (PpbSetting 8)
+
+abbrev past6060Suspended : Row
+past6060Suspended = pastThird PpbClearing
 
 -- ---- "Refusals and their order"
 
@@ -178,7 +233,9 @@ suspendedStands =
 abbrev pub rulings : List Row
 rulings =
     addresses64 ∷ commandAddresses ∷ ppbOfOneBlock ∷ oneProtects ∷ lockBindsPpbs ∷ cutClearsDybs ∷ strayBit ∷ strayListed ∷ shortCells
-    ∷ identityBank4 ∷ ppbBlock270 ∷ progressAtClock0 ∷ chargeAtBound ∷ chargePastBound ∷ clockPastLimit ∷ chipListSmaller ∷ finishedNotBlank
-    ∷ halfEnteredInside ∷ pastA0Suspended ∷ past48Suspended ∷ addressKeepsCommand ∷ sequenceBeginsNothing ∷ sequenceResumesNothing
-    ∷ sequenceEndsReading ∷ windowF0 ∷ busyInEveryBank ∷ clockWholeWait ∷ protectedProgram ∷ refusedRead ∷ suspendedStands
+    ∷ identityBank4 ∷ ppbBlock270 ∷ progressAtClock0 ∷ chargeAtBound ∷ chargePastBound ∷ clockPastLimit ∷ noTimeLeft ∷ moreThanFullTime
+    ∷ windowPast50 ∷ handUnlisted ∷ windowNotLowest ∷ listOfTwoBanks ∷ insideListed ∷ chipListSmaller ∷ finishedNotBlank ∷ halfEnteredInside
+    ∷ pastA0Suspended ∷ pastA0Program ∷ past80Suspended ∷ past80OneUnlock ∷ past80TwoUnlocks ∷ past48Suspended ∷ past60Suspended
+    ∷ past68Suspended ∷ past6060Suspended ∷ addressKeepsCommand ∷ sequenceBeginsNothing ∷ sequenceResumesNothing ∷ sequenceEndsReading
+    ∷ windowF0 ∷ busyInEveryBank ∷ clockWholeWait ∷ protectedProgram ∷ refusedRead ∷ suspendedStands
     ∷ commandRulings ++ operationRulings
