@@ -16,7 +16,7 @@ use Rattle.plain.specs.declared.Operation.{Operation}
 use Rattle.plain.specs.declared.Operation.the-variants.{Idle, Programming, ProgramSuspended, Window, Erasing, EraseSuspended, ChipErasing}
 use Rattle.plain.specs.declared.Command.{Command}
 use Rattle.plain.specs.declared.Command.the-variants.{Ground, Entering, Reads}
-use Rattle.plain.specs.declared.Cycle.the-variants.{Unlock, Unlocked, ProgramData, EraseSetup, DybData, PpbSetup, PpbSetting, PpbClearing}
+use Rattle.plain.specs.declared.Cycle.the-variants.{Unlock, Unlocked, ProgramData, EraseSetup, EraseUnlock, EraseUnlocked, DybData, PpbSetup, PpbSetting, PpbClearing}
 use Rattle.plain.specs.declared.Reading.the-variants.{Identity, Dybs}
 use Rattle.plain.specs.declared.Device.{Device}
 use Rattle.plain.specs.Programs.{writing}
@@ -124,6 +124,9 @@ commands =
     ∷ edge (resting (Entering ProgramData) Nothing) (resting (Entering DybData) Nothing)
     ∷ edge (resting (Entering Unlock) Nothing) (resting (Entering PpbSetup) Nothing)
     ∷ edge (resting (Reads (Identity 3)) Nothing) (resting (Entering PpbClearing) Nothing)
+    ∷ edge (standing (Entering EraseUnlock) Idle freshBits) (resting (Entering EraseUnlock) Nothing)
+    ∷ edge (standing (Entering EraseUnlocked) Idle freshBits) (resting (Entering EraseUnlocked) Nothing)
+    ∷ edge (standing (Entering (PpbSetting 8)) Idle freshBits) (resting (Entering (PpbSetting 8)) Nothing)
     ∷ edge (standing (Entering Unlocked) (ProgramSuspended (programAt 64 1)) freshBits) (standing (Entering ProgramData) (ProgramSuspended (programAt 64 1)) freshBits)
     ∷ []
 

@@ -36,7 +36,7 @@ lowerBlockFirst =
 -- after 49 µs 30H is taken, after 50 it is BUSY: then the erase runs, DQ3 is 1, and nothing has begun
 abbrev windowOf50 : Row
 windowOf50 =
-    runs fresh blank (takes (eraseOf 64 ++ (wait 49 ∷ write 128 0x30 ∷ wait 50 ∷ [])) ++ refuses 6 (write 192 0x30) ++ gives 64 0x4C ++ takes (cut [] ∷ [])) [] 99 1485
+    runs fresh blank (takes (eraseOf 64) ++ gives 2048 0xFFFF ++ takes (wait 49 ∷ write 128 0x30 ∷ wait 50 ∷ []) ++ refuses 6 (write 192 0x30) ++ gives 64 0x4C ++ takes (cut [] ∷ [])) [] 99 1485
 
 -- a block that is refused, by its bank or its protection, does not restart the window
 abbrev refusedBlock : Row
@@ -119,7 +119,7 @@ dq7OfData = runs fresh (but (holds 100 0 ∷ [])) (takes (programOf 100 0x0080) 
 -- a program inside a suspended erase: its own bank reads its status and leaves the erase's DQ2
 abbrev insideOwnBank : Row
 insideOwnBank =
-    runs (pausing 8 1 (Runs (program (writing 200 0x1234) 6 false))) blank (gives 64 0xC4 ++ gives 64 0x84 ++ gives 200 0xC4 ++ waits 6 ++ gives 64 0xC4 ++ gives 200 0x1234) [] 6
+    runs (pausing 8 1 (Runs (program (writing 200 0x1234) 6 false))) blank (gives 64 0xC4 ++ gives 200 0x84 ++ gives 200 0xC4 ++ waits 6 ++ gives 64 0xC4 ++ gives 200 0x1234) [] 6
     102000
 
 -- a listed block in another bank reads C0H plus DQ2; program and erase have toggles of their own
@@ -131,10 +131,10 @@ insideOtherBank =
 abbrev dq2OffList : Row
 dq2OffList = runs (standing Ground (Erasing (erase (only 8) 8 1 false false)) freshBits) blank (gives 0 0x48 ++ gives 64 0x0C ++ gives 0 0x4C ++ gives 2048 0xFFFF) [] 0 0
 
--- so at a protected block in a chip erase, whose status is in all four banks
+-- so at a protected block in a chip erase, whose status is in all four banks; it takes no B0H
 abbrev chipStatus : Row
 chipStatus =
-    runs fresh blank (takes (dybOf 0 1 ++ chipEraseOf) ++ gives 0 0x48 ++ gives 8 0x0C ++ gives 2048 0x48 ++ gives 8192 0x0C ++ gives 16383 0x48) [] 0 0
+    runs fresh blank (takes (dybOf 0 1 ++ chipEraseOf) ++ gives 0 0x48 ++ gives 8 0x0C ++ gives 2048 0x48 ++ gives 8192 0x0C ++ gives 16383 0x48 ++ refuses 6 (write 0 0xB0)) [] 0 0
 
 -- ---- "The cut", and "Cells"
 
