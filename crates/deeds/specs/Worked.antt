@@ -6,7 +6,7 @@ use Rattle.cells.specs.Cells.{erased, littered}
 use Rattle.plain.specs.Record.{fresh}
 use Rattle.language.specs.Language.{Meaning, nothing, malformed, cell}
 use Rattle.language.specs.Language.{fresh as freshen}
-use Rattle.deeds.specs.Events.{State, state}
+use Rattle.deeds.specs.Events.{state}
 use Rattle.deeds.specs.Deeds.{does}
 
 -- what a line means, and the cells that it leaves

@@ -3,7 +3,6 @@ use Prim.Native.Nat.{ℕ, _+_, _%_, _^_}
 use mathlib.Core.Bool.{Bool, true, false}
 use mathlib.Core.Path.{_≡_, refl, ap, _∙_}
 use mathlib.Core.List.{List, [], _∷_, _++_, append-assoc}
-use native.Mathlib.Omega.{arith}
 use lib.Dec.{eqb}
 use lib.ListN.{length}
 use Rattle.plain.specs.declared.Device.{Device}
@@ -11,10 +10,9 @@ use Rattle.plain.specs.Choice.{if_then_else_}
 use Rattle.plain.specs.Record.{fresh}
 use Rattle.script.specs.declared.Line.{Line}
 use Rattle.language.specs.Language.{Bytes, Meaning, meaning}
-use Rattle.language.specs.Orders.{Within, seen}
-use Rattle.script.specs.Lines.{noLine, fedLine, fedWords, endedOrder, endedWords}
+use Rattle.script.specs.Lines.{noLine, fedLine, fedWords, endedWords}
 use Rattle.conformance.specs.Reading.{readFrom}
-use Rattle.conformance.proofs.LineBytes.{reads-meaning, fed-size, ended-size, ended-within}
+use Rattle.conformance.proofs.LineBytes.{reads-meaning, fed-size, ended-size}
 use Rattle.deeds.specs.Events.{State, state}
 use Rattle.deeds.specs.Deeds.{does}
 use Rattle.deeds.specs.Tells.{tells}

@@ -1,15 +1,12 @@
 -- The digits that `io` tells are those of the definition.
 use Prim.Native.Nat.{ℕ, zero, suc, _-_, _*_, _/_, _%_, _^_, _<_, _≤_}
 use mathlib.Core.Path.{_≡_, refl}
-use mathlib.Core.Bool.{Bool, true, false, cond}
-use mathlib.Core.List.{List, [], _∷_, _++_}
 use native.Mathlib.Nat.{mod-eq-of-lt, pow-suc, one-le-pow, pow-le-pow-right}
 use native.Mathlib.Decide.{decLe}
 use native.Mathlib.Numerals.{unary-clauses}
 use native.Mathlib.Omega.{arith}
 use borrow.Author.Tests.{lt-ltb, le-ltb}
-use lib.Dec.{ltb, lit<}
-use lib.ListN.{length, length-append}
+use lib.Dec.{lit<}
 use Rattle.io.specs.Digits.{glyph, digits, Fewest}
 use Rattle.printing.specs.Text.{digit, decimal, decimalWithin}
 

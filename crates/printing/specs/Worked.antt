@@ -1,7 +1,6 @@
 -- Numbers and words, and their text.
-use Prim.Native.Nat.{ℕ}
 use mathlib.Core.Path.{_≡_, refl}
-use mathlib.Core.List.{List, [], _∷_, map}
+use mathlib.Core.List.{[], _∷_, map}
 use Rattle.printing.specs.Text.{ascii, digit, decimal, decimalWithin, hexadecimal}
 
 pub decimals : map decimal (0 ∷ 7 ∷ 10 ∷ 905 ∷ 17015171800 ∷ 18446744073709551615 ∷ []) ≡ map ascii ("0" ∷ "7" ∷ "10" ∷ "905" ∷ "17015171800" ∷ "18446744073709551615" ∷ [])

@@ -1,7 +1,7 @@
 // Replays an event script from standard input on the small part, and writes the answers to standard output.
 
-// Nothing says that the input ends, and a proved loop has to: its turns are more than any run takes. A line has at most 256
-// bytes of answers, and an LF of its own: so those to 256 bytes of input have room.
+// Nothing says that the input ends, and a proved loop has to: its turns are more than any run takes. A line has fewer than 256
+// bytes of answers, and its end is a byte of input: so the answers to 256 bytes have room.
 fn main() {
     let mut memory = [0xffffu16; 16384];
     let cells: &mut [u16] = &mut memory;

@@ -68,10 +68,10 @@ pub fn end(out: &mut [u8], at: usize, clock: u64, charge: u64, first: u64, secon
     ensures { λ r. ⌜ Put (now (out .entry)) at (now (out .exit)) r (endLine clock charge first second) ⌝ }
     ensures { λ r. ⌜ r ≤ at + 88 ⌝ }
 {
-    let mut end = printing::bytes(out, at, b"end");
-    end = printing::number(out, end, clock);
-    end = printing::number(out, end, charge);
-    end = printing::number(out, end, first);
-    end = printing::number(out, end, second);
-    printing::bytes(out, end, b"\n")
+    let mut behind = printing::bytes(out, at, b"end");
+    behind = printing::number(out, behind, clock);
+    behind = printing::number(out, behind, charge);
+    behind = printing::number(out, behind, first);
+    behind = printing::number(out, behind, second);
+    printing::bytes(out, behind, b"\n")
 }
