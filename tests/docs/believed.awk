@@ -32,14 +32,14 @@ function follows(f, all, used,    i, j, n, m, names, name, line) {
         if (line ~ /::/) {
             n = split(line, names, "::")
             if (index(used, " " names[n] " ")) declared(names[1] == "crate" ? crate_of(f) : names[1], names[n])
-        } else if (line ~ / as /) {
+        } else if (line ~ / as / && line !~ /[{]/) {
             split(line, names, " as ")
             if (all || index(used, " " names[2] " ")) follow(names[1], names[2])
         } else {
             m = line; sub(/[.][{].*/, "", m)
             sub(/.*[.][{]/, "", line); sub(/[}]$/, "", line)
             n = split(line, names, ", ")
-            for (j = 1; j <= n; j++) { name = names[j]; if (all || index(used, " " met(name) " ")) follow(m, name) }
+            for (j = 1; j <= n; j++) { name = names[j]; sub(/ as .*/, "", name); if (all || index(used, " " met(name) " ")) follow(m, name) }
         }
     }
 }

@@ -5,8 +5,9 @@ use mathlib.Core.List.{List, [], _∷_, _++_, append-assoc}
 use lib.Dec.{eqb}
 use Rattle.plain.specs.Choice.{if_then_else_}
 use Rattle.playing.specs.declared.Replay.{Replay}
-use Rattle.playing.specs.Runs.{Run, run, begun, ended, fed, answered, runOver, toldOver, closing, told}
-use Rattle.playing.proofs.Plays.{script-answers}
+use Rattle.playing.specs.Runs.{Run, run, ended, fed, runOver, toldOver, closing, told}
+use Rattle.playing.proofs.Answers.{script-answers}
+use Rattle.playing.proofs.Told.{told-parts}
 use Rattle.audit.specs.Replayed.{Writes, ends, goes, joined, ReplayAnswers}
 
 -- a run over two parts is one over the first and one over the second
@@ -15,14 +16,8 @@ unfolding runOver
 runs-on s [] two = refl
 runs-on s (b ∷ one) two = runs-on (if eqb b 10 then ended s else fed s b) one two
 
-tells-on : (s : Run) (one two : List ℕ) → toldOver s (one ++ two) ≡ toldOver s one ++ toldOver (runOver s one) two
-unfolding runOver toldOver
-tells-on s [] two = refl
-tells-on s (b ∷ one) two =
-    rw (tells-on (if eqb b 10 then ended s else fed s b) one two) (sym (append-assoc (if eqb b 10 then answered s else []) (toldOver (if eqb b 10 then ended s else fed s b) one) _))
-
 whole-on : (s : Run) (one two : List ℕ) → told s (one ++ two) ≡ toldOver s one ++ told (runOver s one) two
-whole-on s one two = rw (tells-on s one two, runs-on s one two) (append-assoc (toldOver s one) (toldOver (runOver s one) two) (closing (runOver (runOver s one) two)))
+whole-on s one two = rw (told-parts s one two, runs-on s one two) (append-assoc (toldOver s one) (toldOver (runOver s one) two) (closing (runOver (runOver s one) two)))
 
 writes-told : {r : Replay} {cells words : List ℕ} {parts : List (List ℕ)} {written : List ℕ} → Writes r cells words parts written → written ≡ told (run r cells words) (joined parts)
 unfolding runOver toldOver

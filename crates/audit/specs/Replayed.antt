@@ -8,7 +8,7 @@ use contract.Lifetimes.{Lfts}
 use Rattle.plain.specs.Record.{fresh}
 use Rattle.language.specs.Language.{Bytes}
 use Rattle.deeds.specs.Events.{state}
-use Rattle.deeds.specs.Plays.{answers}
+use Rattle.deeds.specs.Answers.{answers}
 use Rattle.playing.specs.declared.Replay.{Replay}
 use Rattle.playing.specs.declared.Played.{Played}
 use Rattle.playing.proofs.fresh.Reads as Fresh

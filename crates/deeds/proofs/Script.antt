@@ -24,7 +24,7 @@ use Rattle.telling.specs.Lines.{eventLine, malformedLine, endLine, blockLine, w
 use Rattle.exceptions.specs.Exceptions.{blockLines, wordLines, cellAt}
 use Rattle.deeds.specs.Deeds.{does}
 use Rattle.deeds.specs.Tells.{tells}
-use Rattle.deeds.specs.Plays.{answersFrom}
+use Rattle.deeds.specs.Answers.{answersFrom}
 use Rattle.deeds.specs.Script.{ScriptAnswered}
 
 pub script-answered : ScriptAnswered

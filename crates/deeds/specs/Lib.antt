@@ -1,6 +1,6 @@
 pub mod Events
 pub mod Deeds
 pub mod Tells
-pub mod Plays
+pub mod Answers
 pub mod Worked
 pub mod Script

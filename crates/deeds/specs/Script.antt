@@ -6,7 +6,7 @@ use lib.ListN.{replicate}
 use Rattle.plain.specs.Record.{fresh}
 use Rattle.printing.specs.Text.{ascii}
 use Rattle.deeds.specs.Events.{state}
-use Rattle.deeds.specs.Plays.{answers}
+use Rattle.deeds.specs.Answers.{answers}
 
 abbrev pub script : List ℕ
 script =

@@ -18,7 +18,8 @@ use Rattle.plain.proofs.EventLaws as events
 use Rattle.layout.specs.Places.{recordWords}
 use Rattle.layout.specs.Image.{imageOf, wellFormed, deviceOf}
 use Rattle.layout.proofs.Canonical.{canonical, long}
-use Rattle.face.specs.Face.{Faced, isPart, partNamed, stands, standsSound, answered, shown, state, faceEntry, faceRead, faceWrite, faceWait, faceCut}
+use Rattle.face.specs.Entry.{faceEntry}
+use Rattle.face.specs.Face.{Faced, isPart, partNamed, stands, standsSound, answered, shown, state, faceRead, faceWrite, faceWait, faceCut}
 
 -- the face's answer, from that of the plain machine
 pub told : (f : Faced) (o : Outcome) (y : Answer) → f ≡ shown o → y ≡ o .answer → f ≡ answered (number (y .refusal)) (y .word) (imageOf (y .device)) (o .lent .cells)

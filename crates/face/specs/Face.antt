@@ -11,14 +11,12 @@ use Rattle.plain.specs.declared.Place.{Place}
 use Rattle.plain.specs.declared.Place.the-variants.{Nowhere, At}
 use Rattle.plain.specs.declared.Refusal.the-variants.{Done, State}
 use Rattle.plain.specs.declared.Device.{Device}
-use Rattle.plain.specs.declared.Entry.{Entry}
-use Rattle.plain.specs.declared.Entry.the-variants.{Barred}
 use Rattle.plain.specs.Choice.{if_then_else_}
 use Rattle.plain.specs.Lent.{Lent, lent}
 use Rattle.plain.specs.Record.{fresh}
 use Rattle.plain.specs.Refusals.{number}
 use Rattle.plain.specs.Sound.{sound}
-use Rattle.plain.specs.Machine.{Outcome, entry, readEvent, writeEvent, waitEvent, cutEvent}
+use Rattle.plain.specs.Machine.{Outcome, readEvent, writeEvent, waitEvent, cutEvent}
 use Rattle.layout.specs.Places.{recordWords}
 use Rattle.layout.specs.Image.{imageOf, wellFormed, deviceOf}
 
@@ -77,10 +75,6 @@ faceCut part i cells debris = faced (λ p r l. cutEvent p r l debris) part i cel
 -- a read's answer: "the word in the low 16 bits, the refusal above them"
 abbrev pub packed : Faced → ℕ
 packed f = 65536 * f .refusal + f .word
-
--- the checks that each event begins with: STATE, then CELLS
-unfoldable pub faceEntry : (part : ℕ) → List ℕ → List ℕ → Entry
-faceEntry part i cells = if stands part i then entry (partNamed part) (deviceOf i) (lent cells) else Barred State
 
 -- ---- a fresh device
 

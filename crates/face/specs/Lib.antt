@@ -1,2 +1,3 @@
 pub mod Face
+pub mod Entry
 pub mod Worked

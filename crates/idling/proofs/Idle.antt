@@ -38,7 +38,8 @@ use Rattle.layout.specs.Image.{imageOf, meterOf, bitsOf, deviceOf, idleWords}
 use Rattle.layout.specs.Stored.{withMeter, withCommand}
 use Rattle.layout.proofs.Idle.{idle-well, idle-device}
 use Rattle.layout.proofs.Stored.{stored-meter, stored-command}
-use Rattle.face.specs.Face.{Faced, isPart, partNamed, stands, answered, shown, faceEntry, faceRead, faceWrite, faceWait}
+use Rattle.face.specs.Entry.{faceEntry}
+use Rattle.face.specs.Face.{Faced, isPart, partNamed, stands, answered, shown, faceRead, faceWrite, faceWait}
 use Rattle.face.proofs.Faces.{Enters, enters, kept, entry-none, entry-some, read-some, write-some, wait-some}
 
 module _ (part : ℕ) (i : List ℕ) (idle : idleWords i ≡ true) where

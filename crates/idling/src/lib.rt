@@ -3,7 +3,8 @@
 ghost use mathlib.Core.Path.{_≡_};
 ghost use mathlib.Core.Bool.{true};
 ghost use Rattle.layout.specs.Image.{idleWords};
-ghost use Rattle.face.specs.Face.{packed, faceEntry, faceRead, faceWrite, faceWait};
+ghost use Rattle.face.specs.Entry.{faceEntry};
+ghost use Rattle.face.specs.Face.{packed, faceRead, faceWrite, faceWait};
 
 pub mod fresh;
 

@@ -13,7 +13,7 @@ use Rattle.language.specs.Orders.{seen}
 use Rattle.deeds.specs.Events.{State, state}
 use Rattle.deeds.specs.Deeds.{does}
 use Rattle.deeds.specs.Tells.{tells}
-use Rattle.deeds.specs.Plays.{lastOf}
+use Rattle.deeds.specs.Answers.{lastOf}
 
 abbrev pub replay : Device → Line → (number : ℕ) → Replay
 replay r l n = record { device = r; line = l; number = n }

@@ -2,7 +2,7 @@
 use Prim.Native.Nat.{ℕ, _<_}
 use mathlib.Core.Path.{_≡_, refl}
 use mathlib.Core.Bool.{Bool, true, false, true≢false, _||_}
-use Rattle.regions.specs.Regions.{strayIn}
+use Rattle.regions.specs.Stray.{strayIn}
 use Rattle.regions.proofs.Laws.{stray-with, stray-without, stray-empty}
 use Rattle.geometry.specs.declared.Part.{Part}
 use Rattle.geometry.specs.Parts.{blockCount}

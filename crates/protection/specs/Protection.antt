@@ -6,7 +6,7 @@ use Rattle.blocks.specs.declared.Blocks.{Blocks}
 use Rattle.blocks.specs.Blocks.{has, setOf, emptyOf, withOf, withoutOf, isEmptyOf}
 use Rattle.geometry.specs.declared.Part.{Part}
 use Rattle.geometry.specs.Parts.{blockCount}
-use Rattle.regions.specs.Regions.{strayIn}
+use Rattle.regions.specs.Stray.{strayIn}
 use Rattle.protection.specs.declared.Protection.{Protection}
 
 abbrev pub bits : Blocks → Blocks → Bool → Protection

@@ -13,7 +13,8 @@ use Rattle.blocks.proofs.Laws.{has-of, has-empty, has-without, with-split, some
 use Rattle.geometry.specs.declared.Part.{Part}
 use Rattle.geometry.specs.Parts.{blockCount}
 use Rattle.geometry.proofs.Counts.{blocks-most}
-use Rattle.regions.specs.Regions.{blocksOf, strangers, strayIn}
+use Rattle.regions.specs.Regions.{blocksOf, strangers}
+use Rattle.regions.specs.Stray.{strayIn}
 
 pub has-blocks-of : (p : Part) (b : ℕ) → has (blocksOf p) b ≡ ltb b (blockCount p)
 has-blocks-of p b = has-of (λ n. ltb n (blockCount p)) b (λ l. le-ltb b (blockCount p) (omega (arith, blocks-most p)))

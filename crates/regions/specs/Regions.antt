@@ -1,10 +1,10 @@
 -- The sets of blocks that a part has (document 01, "The die and its small twin"). A set can hold 320 numbers, more than
 -- a part has blocks.
 use Prim.Native.Nat.{ℕ}
-use mathlib.Core.Bool.{Bool, _&&_, not}
+use mathlib.Core.Bool.{_&&_, not}
 use lib.Dec.{ltb, eqb}
 use Rattle.blocks.specs.declared.Blocks.{Blocks}
-use Rattle.blocks.specs.Blocks.{has, setOf, some}
+use Rattle.blocks.specs.Blocks.{setOf}
 use Rattle.geometry.specs.declared.Part.{Part}
 use Rattle.geometry.specs.Parts.{blockCount, bankOfBlock}
 
@@ -19,7 +19,3 @@ strangers p = setOf (λ b. not (ltb b (blockCount p)))
 -- the numbers that are no block of the bank
 abbrev pub outsideBank : Part → ℕ → Blocks
 outsideBank p bank = setOf (λ b. not (ltb b (blockCount p) && eqb (bankOfBlock p b) bank))
-
--- is there a number in it that is no block's? "block numbers are in range" rules it out
-abbrev pub strayIn : Part → Blocks → Bool
-strayIn p s = some (λ b. not (ltb b (blockCount p)) && has s b) 320

@@ -1,6 +1,7 @@
 // The sets of blocks that a part has. Each is a constant: every event asks for one.
 ghost use mathlib.Core.Path.{_≡_};
-ghost use Rattle.regions.specs.Regions.{blocksOf, strangers, outsideBank, strayIn};
+ghost use Rattle.regions.specs.Regions.{blocksOf, strangers, outsideBank};
+ghost use Rattle.regions.specs.Stray.{strayIn};
 use blocks::Blocks;
 use geometry::Part;
 

@@ -1,4 +1,4 @@
--- A script's bytes, the device and the answers: each line does what it means and is answered, one after the other.
+-- All that a script is answered with: each of its lines does what it means and is answered, one after the other.
 use Prim.Native.Nat.{ℕ, _+_, _%_, _^_}
 use mathlib.Core.Bool.{Bool, true, false}
 use mathlib.Core.List.{List, [], _∷_, _++_}
@@ -7,20 +7,6 @@ use Rattle.language.specs.Language.{Meaning, meaning}
 use Rattle.deeds.specs.Events.{State}
 use Rattle.deeds.specs.Deeds.{does}
 use Rattle.deeds.specs.Tells.{tells, lastLine}
-
-abbrev pub goesOn : (ends : Bool) (line : List ℕ → Meaning) (byte : ℕ) (rest : (List ℕ → Meaning) → State → State) → State → State
-goesOn true line byte rest s = rest meaning (does (line []) (s .device) (s .cells))
-goesOn false line byte rest s = rest (λ bytes. line (byte ∷ bytes)) s
-
--- "lines end with LF", the last one with the input: `line` tells what the line under way means with its further bytes
-unfoldable pub playsFrom : (line : List ℕ → Meaning) (bytes : List ℕ) → State → State
-playsFrom line [] s = does (line []) (s .device) (s .cells)
-playsFrom line (b ∷ bytes) s = goesOn (eqb b 10) line b (λ next. playsFrom next bytes) s
-
-abbrev pub plays : (bytes : List ℕ) → State → State
-plays bytes s = playsFrom meaning bytes s
-
--- ---- the answers
 
 abbrev pub answersOn : (ends : Bool) (line : List ℕ → Meaning) (number byte : ℕ) (rest : (List ℕ → Meaning) → ℕ → State → List ℕ) → State → List ℕ
 answersOn true line n byte rest s =
@@ -31,7 +17,8 @@ answersOn false line n byte rest s = rest (λ bytes. line (byte ∷ bytes)) n s
 abbrev pub lastOf : State → List ℕ
 lastOf s = lastLine (s .device) (s .cells)
 
--- from a line of this number on; a line's number is of 64 bits
+-- "lines end with LF", the last one with the input: `line` tells what the line under way means with its further bytes. A line's number is
+-- of 64 bits
 unfoldable pub answersFrom : (line : List ℕ → Meaning) (number : ℕ) (bytes : List ℕ) → State → List ℕ
 answersFrom line n [] s = tells (line []) n (s .device) (s .cells) ++ lastOf (does (line []) (s .device) (s .cells))
 answersFrom line n (b ∷ bytes) s = answersOn (eqb b 10) line n b (λ next m. answersFrom next m bytes) s

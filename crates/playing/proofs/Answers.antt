@@ -1,4 +1,4 @@
--- The run over a script's bytes leaves the device and the cells, and gives the answers, that the language and the plain machine tell.
+-- What the run over a script's bytes tells is what the language and the plain machine say.
 use Prim.Native.Nat.{ℕ, _+_, _%_, _^_}
 use mathlib.Core.Bool.{Bool, true, false}
 use mathlib.Core.Path.{_≡_, refl, ap, _∙_}
@@ -17,56 +17,9 @@ use Rattle.deeds.specs.Events.{State, state}
 use Rattle.deeds.specs.Deeds.{does}
 use Rattle.deeds.specs.Tells.{tells}
 use Rattle.playing.specs.Runs.{run, replay, begun, ended, fed, runOver, answered, toldOver, left, closing, told}
-use Rattle.deeds.specs.Plays.{goesOn, playsFrom, plays, answersOn, answersFrom, answers}
+use Rattle.deeds.specs.Answers.{answersOn, answersFrom, answers}
 
--- a line that ends does what the reader makes of it
-ended-does : (r : Device) (l : Line) (n : ℕ) (cells words : List ℕ) → left (run (replay r l n) cells words) ≡ does (readFrom l words []) r cells
-unfolding ended readFrom
-ended-does r l n cells words = refl
-
--- two readings of a line that agree play alike
-same-plays : (bytes : List ℕ) (f g : List ℕ → Meaning) (s : State) → Bytes bytes → ((rest : List ℕ) → Bytes rest → f rest ≡ g rest) → playsFrom f bytes s ≡ playsFrom g bytes s
-unfolding playsFrom
-same-plays [] f g s p same = rw (same [] tt)
-same-plays (b ∷ bytes) f g s p same =
-    by (eqb b 10) (same-plays bytes (λ rest. f (b ∷ rest)) (λ rest. g (b ∷ rest)) s (p .1) (λ rest q. same (b ∷ rest) (p .0, q)))
-  where
-    by : (e : Bool) → playsFrom (λ rest. f (b ∷ rest)) bytes s ≡ playsFrom (λ rest. g (b ∷ rest)) bytes s
-        → goesOn e f b (λ next. playsFrom next bytes) s ≡ goesOn e g b (λ next. playsFrom next bytes) s
-    by true go = rw (same [] tt)
-    by false go = go
-
--- from a line under way on
-plays-on : (bytes : List ℕ) (r : Device) (l : Line) (n : ℕ) (cells words : List ℕ) → length words ≡ 16384 → Bytes bytes
-    → left (runOver (run (replay r l n) cells words) bytes) ≡ playsFrom (readFrom l words) bytes (state r cells)
-unfolding runOver playsFrom ended fed readFrom
-plays-on [] r l n cells words size p = ended-does r l n cells words
-plays-on (b ∷ bytes) r l n cells words size p =
-    by (eqb b 10)
-    (λ s m stored held. plays-on bytes (s .device) noLine m (s .cells) stored held (p .1))
-    (plays-on bytes r (fedLine l b (length words)) n cells (fedWords l b words) (fed-size l b words ∙ size) (p .1))
-  where
-    by : (e : Bool)
-        → ((s : State) (m : ℕ) (stored : List ℕ) → length stored ≡ 16384 → left (runOver (run (replay (s .device) noLine m) (s .cells) stored) bytes) ≡ playsFrom (readFrom noLine stored) bytes s)
-        → left (runOver (fed (run (replay r l n) cells words) b) bytes) ≡ playsFrom (readFrom (fedLine l b (length words)) (fedWords l b words)) bytes (state r cells)
-        → left (runOver (if e then ended (run (replay r l n) cells words) else fed (run (replay r l n) cells words) b) bytes)
-        ≡ goesOn e (readFrom l words) b (λ next. playsFrom next bytes) (state r cells)
-    by true next on =
-        let s = left (run (replay r l n) cells words) in
-        let held = ended-size l words ∙ size in
-        next s _ (endedWords l words) held
-        ∙ (same-plays bytes (readFrom noLine (endedWords l words)) meaning s (p .1) (λ rest q. reads-meaning (endedWords l words) rest held q)
-        ∙ ap (playsFrom meaning bytes) (ended-does r l n cells words))
-    by false next on = on
-
--- ---- the whole: the device and the cells that a script leaves
-pub script-plays : (bytes cells words : List ℕ) → length words ≡ 16384 → Bytes bytes → left (runOver (run begun cells words) bytes) ≡ plays bytes (state fresh cells)
-script-plays bytes cells words size p =
-    plays-on bytes fresh noLine 1 cells words size p
-    ∙ same-plays bytes (readFrom noLine words) meaning (state fresh cells) p (λ rest q. reads-meaning words rest size q)
-
--- ---- the same of the answers
-
+-- two readings of a line that agree are answered alike
 same-answers : (bytes : List ℕ) (f g : List ℕ → Meaning) (n : ℕ) (s : State) → Bytes bytes → ((rest : List ℕ) → Bytes rest → f rest ≡ g rest)
     → answersFrom f n bytes s ≡ answersFrom g n bytes s
 unfolding answersFrom
