@@ -29,7 +29,8 @@ pub fn read(
     ensures { λ r. ⌜ Put (now (out .entry)) at (now (out .exit)) (r .end) (tells (Line·read address) line device (now (cells .entry))) ⌝ }
     ensures { λ r. ⌜ r .end ≤ at + 99 ⌝ }
 {
-    let answer = machine::read(Part::Small, device, cells, address);
+    let part = Part::small();
+    let answer = machine::read(part, device, cells, address);
     answered(answer, line, out, at)
 }
 
@@ -47,7 +48,8 @@ pub fn write(
     ensures { λ r. ⌜ Put (now (out .entry)) at (now (out .exit)) (r .end) (tells (Line·write address word) line device (now (cells .entry))) ⌝ }
     ensures { λ r. ⌜ r .end ≤ at + 99 ⌝ }
 {
-    let answer = machine::write(Part::Small, device, cells, address, word);
+    let part = Part::small();
+    let answer = machine::write(part, device, cells, address, word);
     answered(answer, line, out, at)
 }
 
@@ -65,7 +67,8 @@ pub fn wait(
     ensures { λ r. ⌜ Put (now (out .entry)) at (now (out .exit)) (r .end) (tells (Line·wait microseconds) line device (now (cells .entry))) ⌝ }
     ensures { λ r. ⌜ r .end ≤ at + 99 ⌝ }
 {
-    let answer = machine::wait(Part::Small, device, cells, microseconds);
+    let part = Part::small();
+    let answer = machine::wait(part, device, cells, microseconds);
     answered(answer, line, out, at)
 }
 
@@ -84,11 +87,12 @@ pub fn cut(
     ensures { λ r. ⌜ Put (now (out .entry)) at (now (out .exit)) (r .end) (tells (Line·cut (now (debris .entry))) line device (now (cells .entry))) ⌝ }
     ensures { λ r. ⌜ r .end ≤ at + 246 ⌝ }
 {
-    let exposed = machine::exposed(Part::Small, device);
+    let part = Part::small();
+    let exposed = machine::exposed(part, device);
     let block = exposed.block;
     let word = exposed.word;
     let before = exceptions::cell_at(cells, word);
-    let answer = machine::cut(Part::Small, device, cells, debris);
+    let answer = machine::cut(part, device, cells, debris);
     let refusal = answer.refusal;
     let told = answered(answer, line, out, at);
     if answers::number_of(refusal) != 0 {

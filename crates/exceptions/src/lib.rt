@@ -15,8 +15,9 @@ pub fn block(out: &mut [u8], at: usize, line: u64, place: Place) -> usize
     match place {
         Place::Nowhere => at,
         Place::At(block) => {
-            let first = Part::Small.first_of(block);
-            let last = first + Part::Small.size_of(block) - 1;
+            let part = Part::small();
+            let first = part.first_of(block);
+            let last = first + part.size_of(block) - 1;
             telling::block(out, at, line, block, first, last)
         }
     }

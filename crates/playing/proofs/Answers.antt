@@ -14,7 +14,6 @@ use Rattle.script.specs.Lines.{noLine, fedLine, fedWords, endedWords}
 use Rattle.conformance.specs.Reading.{readFrom}
 use Rattle.conformance.proofs.LineBytes.{reads-meaning, fed-size, ended-size}
 use Rattle.deeds.specs.Events.{State, state}
-use Rattle.deeds.specs.Deeds.{does}
 use Rattle.deeds.specs.Tells.{tells}
 use Rattle.playing.specs.Runs.{run, replay, begun, ended, fed, runOver, answered, toldOver, left, closing, told}
 use Rattle.deeds.specs.Answers.{answersOn, answersFrom, answers}

@@ -9,11 +9,12 @@ unfolding does tells
 wait-spec =
     tie.close
     (tie.spec
+    (λ c κs. search needs)  -- small-requires
     (λ c κs. search needs)  -- wait-requires
     (λ c κs. search needs)  -- answered-requires
     (λ c. search needs)  -- same-length
     (λ c. search needs)  -- same-length-2
     (λ c.
     let a = c .before .before .answered .ensures in
-    let e = c .before .before .before .before .before .before .wait .ensures in
+    let e = rw (c .before .before .before .before .before .before .before .before .small .ensures) at (c .before .before .before .before .before .before .wait .ensures) in
     (rw (a .0, e .0), (e .1, (rw (e .0) at (a .1 .0), a .1 .1)))))  -- returns

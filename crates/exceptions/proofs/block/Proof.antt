@@ -13,11 +13,16 @@ block-spec =
     (tie.spec
     (λ c. search needs)  -- enum-told
     (λ c. search needs)  -- enum-known-place
+    (λ c κs. search needs)  -- small-requires
     (λ c κs. search needs)  -- first-of-requires
     (λ c κs. search needs)  -- size-of-requires
-    (λ c. rw (c .size-of .ensures, c .before .first-of .ensures) (omega (arith, block-end (c .before .before .before .place .given .0 .0))))  -- add-last
-    (λ c. rw (c .size-of .ensures, c .before .first-of .ensures) (omega (arith, block-end (c .before .before .before .place .given .0 .0))))  -- sub-last
+    (λ c. rw (c .size-of .ensures, c .before .first-of .ensures, c .before .before .small .ensures) (omega (arith, block-end (c .before .before .before .before .place .given .0 .0))))  -- add-last
+    (λ c. rw (c .size-of .ensures, c .before .first-of .ensures, c .before .before .small .ensures) (omega (arith, block-end (c .before .before .before .before .place .given .0 .0))))  -- sub-last
     (λ c κs. search needs)  -- block-requires
     (λ c. (rw (c .enum-told .given .1) put-none, omega arith))  -- returns
     (λ c. search needs)  -- same-length
-    (λ c. (rw (c .before .before .before .before .before .before .before .place .given .1, ← c .before .before .before .before .before .first-of .ensures, ← c .before .before .before .before .size-of .ensures) (c .before .before .block .ensures .0), c .before .before .block .ensures .1)))  -- returns-2
+    (λ c.
+    let small = c .before .before .before .before .before .before .small .ensures in
+    let first = rw small at (c .before .before .before .before .before .first-of .ensures) in
+    let size = rw small at (c .before .before .before .before .size-of .ensures) in
+    (rw (c .before .before .before .before .before .before .before .before .place .given .1, ← first, ← size) (c .before .before .block .ensures .0), c .before .before .block .ensures .1)))  -- returns-2
