@@ -1,11 +1,10 @@
 -- The word that an event gives: 16 bits of a read over cells of 16 bits, and 0 of every other event.
-use Prim.Native.Nat.{ℕ, _≤_, _<_}
+use Prim.Native.Nat.{ℕ, _%_, _≤_, _<_}
 use mathlib.Core.Path.{_≡_, refl}
 use mathlib.Core.Bool.{Bool, true, false}
 use mathlib.Core.List.{List}
 use native.Mathlib.Omega.{arith}
 use lib.Dec.{eqb, lit<}
-use Prim.Native.Nat.{_%_}
 use Rattle.blocks.specs.Blocks.{has}
 use Rattle.geometry.specs.declared.Part.{Part}
 use Rattle.geometry.specs.Parts.{blockOf}

@@ -15,3 +15,4 @@ pub mod Runs
 pub mod Begun
 pub mod Demand
 pub mod Taken
+pub mod Judged

@@ -21,5 +21,4 @@ pub mod EventLaws
 pub mod SuspendedProgram
 pub mod HistoryLeaps
 pub mod Worked
-pub mod Judged
 pub mod BegunSound
