@@ -1,11 +1,12 @@
 // How long what runs has still to go if nobody writes: until the device next changes by itself, and until nothing runs any more.
 ghost use mathlib.Core.Path.{_≡_};
-ghost use Prim.Native.Nat.{_<_};
+ghost use Prim.Native.Nat.{_+_, _*_, _^_, _<_};
 ghost use Rattle.geometry.specs.Parts.{blockCount};
 ghost use Rattle.plain.specs.Operations.{runningOf};
 ghost use Rattle.remaining.specs.Remaining.{changeOf, toCome, untilEnd, Fits};
 use blocks::Blocks;
 use geometry::Part;
+use plain::Erase;
 use plain::Operation;
 use plain::Running;
 use plain::figures;
@@ -58,18 +59,23 @@ pub fn until_end(part: Part, operation: Operation) -> u64
         Running::Programs(program) => program.left,
         Running::Waits(erase) => {
             let full = figures::erase_time(part);
-            let list = erase.list;
-            erase.left + full + to_come(part, list, erase.hand) * full
+            let rest = rest_of(part, erase, full);
+            rest + full
         }
-        Running::Erases(erase) => {
-            let list = erase.list;
-            erase.left + to_come(part, list, erase.hand) * figures::erase_time(part)
-        }
-        Running::ErasesChip(erase) => {
-            let list = erase.list;
-            erase.left + to_come(part, list, erase.hand) * figures::chip_time(part)
-        }
+        Running::Erases(erase) => rest_of(part, erase, figures::erase_time(part)),
+        Running::ErasesChip(erase) => rest_of(part, erase, figures::chip_time(part)),
     }
+}
+
+// The block in hand, and those that come after it.
+fn rest_of(part: Part, erase: Erase, full: u64) -> u64
+    requires { ⌜ erase .hand < blockCount part ⌝ }
+    requires { ⌜ (erase .left < 4294967296) × (full < 4294967296) ⌝ }
+    ensures { λ r. ⌜ r ≡ erase .left + toCome part (erase .list) (erase .hand) * full ⌝ }
+    ensures { λ r. ⌜ r + full < 2 ^ 64 ⌝ }
+{
+    let list = erase.list;
+    erase.left + to_come(part, list, erase.hand) * full
 }
 
 // How many listed blocks lie above the one in hand.
