@@ -1,3 +1,5 @@
 pub mod Counting
 pub mod InHand
-pub mod Foretold
+pub mod Ends
+pub mod Drifts
+pub mod Lands

@@ -10,12 +10,13 @@ use Rattle.protection.specs.declared.Protection.{Protection}
 use Rattle.plain.specs.declared.Command.{Command}
 use Rattle.plain.specs.declared.Running.{Running}
 use Rattle.plain.specs.declared.Running.the-variants.{Still, Programs, Waits, Erases, ErasesChip}
-use Rattle.plain.specs.Lent.{cellAt}
+use Rattle.plain.specs.Lent.{Lent, cellAt}
 use Rattle.plain.specs.Operations.{runningOf, suspensionOf}
+use Rattle.plain.specs.Programs.{finished}
 use Rattle.plain.specs.Record.{programLeft, eraseLeft}
 use Rattle.plain.specs.Sound.{isStill}
 use Rattle.plain.specs.Status.{look}
-use Rattle.plain.specs.Time.{Moment, ticks}
+use Rattle.plain.specs.Time.{Moment, eraseFinished, ticks}
 use Rattle.remaining.specs.declared.Change.{Change}
 use Rattle.remaining.specs.declared.Change.the-variants.{Never, WindowEnds, WordDone, BlockDone}
 use Rattle.remaining.specs.Remaining.{Fits, changeOf, untilEnd}
@@ -66,8 +67,17 @@ pub record Unchanged (p : Part) (before after : Moment) : Type 0 where
 abbrev pub UnchangedTill : Part → Type 0
 UnchangedTill p = (m : Moment) (k : ℕ) → comeBy (changeOf (runningOf (m .operation))) k ≡ false → Unchanged p m (ticks p k m)
 
--- something else runs, or nothing; no word has changed but where it was told
+-- what the last microsecond makes of the cells: "Cells change only when a word or block is finished."
+unfoldable pub completed : Part → Running → Lent → Lent
+completed p Still l = l
+completed p (Programs q) l = finished (q .writes) l
+completed p (Waits e) l = l
+completed p (Erases e) l = eraseFinished p e l
+completed p (ErasesChip e) l = eraseFinished p e l
+
+-- something else runs, or nothing; what was in hand is finished, and no word has changed but where it was told
 pub record Changed (p : Part) (before after : Moment) : Type 0 where
+  pub lent : after .lent ≡ completed p (runningOf (before .operation)) (before .lent)
   pub runs : timeless (runningOf (after .operation)) ≡ timeless (runningOf (before .operation)) → ⊥
   pub elsewhere : (x : ℕ) → x < wordCount p → changesAt p (changeOf (runningOf (before .operation))) x ≡ false → cellAt (after .lent) x ≡ cellAt (before .lent) x
 
