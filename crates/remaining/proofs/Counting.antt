@@ -110,9 +110,9 @@ module _ (p : Part) (list : Blocks) where
   on-first : (n : ℕ) → firstFrom list n < blockCount p → has list (firstFrom list n) ≡ true
   on-first n h = first-has list n (omega (arith, blocks-most p))
 
-  pub count-begins : (hand : ℕ) → Counting hand 0 (firstFrom list (suc hand))
+  pub count-begins : (hand : ℕ) → Counting hand 0 (firstFrom list (hand + 1))
   count-begins hand =
-      record { all = omega (arith, come-listed hand, listed-first (suc hand)); on = on-first (suc hand) }
+      rw (add-one hand) (record { all = omega (arith, come-listed hand, listed-first (suc hand)); on = on-first (suc hand) })
 
   module _ {hand count at : ℕ} (c : Counting hand count at) where
     pub count-goes-on : at < blockCount p → Counting hand (count + 1) (firstFrom list (at + 1))

@@ -1,2 +1,1 @@
 pub mod Remaining
-pub mod Foretold

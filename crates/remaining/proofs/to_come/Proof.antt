@@ -1,6 +1,5 @@
 -- At each turn what has been counted and what is still listed from here on make the whole.
 use Prim.Native.Nat.{_+_, _-_}
-use native.Mathlib.Numerals.{add-one}
 use native.Mathlib.Omega.{arith}
 use borrow.Author.Needs.{needs}
 use Rattle.blocks.proofs.Lowest.{first-from}
@@ -23,7 +22,7 @@ to-come-spec =
     μ-loop
     (λ c. omega (arith, c .pre, blocks-most (c .args .part)))  -- add-first-from
     (λ c κs. search needs)  -- first-from-requires
-    (λ c. rw (c .first-from .ensures, add-one) (count-begins _ _ _))  -- loop-holds
+    (λ c. rw (c .first-from .ensures) (count-begins _ _ _))  -- loop-holds
     (λ c κs. search needs)  -- blocks-requires
     (λ c. omega (arith, count-most _ _ (c .before .before .loop .inv)))  -- add-count
     (λ c. omega (arith, c .if1 .taken, c .before .blocks2 .ensures, blocks-most (c .before .before .before .before .args .part)))  -- add-first-from-2

@@ -34,9 +34,9 @@ use Rattle.plain.proofs.InTime.{program-running, inside-running, window-running
 use Rattle.plain.proofs.Programs.{finished-at}
 use Rattle.plain.proofs.Ticks.{lands}
 use Rattle.plain.proofs.Tools.{by-test, clash}
 use Rattle.remaining.specs.Remaining.{Fits, changeOf}
-use Rattle.remaining.specs.Foretold.{comesAt, changesAt, timeless, completed, Changed, ChangedThen}
+use Rattle.foretold.specs.Foretold.{comesAt, changesAt, timeless, completed, Changed, ChangedThen}
 use Rattle.remaining.proofs.InHand.{Timely, fits-timely}
 
 -- ---- another thing runs
 

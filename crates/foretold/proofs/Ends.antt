@@ -24,10 +24,10 @@ use Rattle.plain.specs.Sound.{isStill}
 use Rattle.plain.specs.Time.{Moment, last, onward, operationTick, insideTick, tick, ticks}
 use Rattle.plain.proofs.SoundTime.{tick-fit}
 use Rattle.plain.proofs.Tools.{by-test, by-cases}
 use Rattle.remaining.specs.Remaining.{Fits, toCome, untilEnd}
-use Rattle.remaining.specs.Foretold.{EndsThen}
+use Rattle.foretold.specs.Foretold.{EndsThen}
 use Rattle.remaining.proofs.Counting.{come-next, come-none}
 use Rattle.remaining.proofs.InHand.{Timed, Timely, fits-timely}
 
 module _ (p : Part) where
   abbrev end : Operation → ℕ

@@ -23,8 +23,8 @@ use Rattle.plain.specs.Status.{look, polls, polled, insidePolled, status, readi
 use Rattle.plain.specs.Time.{Moment, moment, ticks}
 use Rattle.plain.proofs.InTime.{idle-still, program-still, erase-still, program-running, inside-running, window-running, erase-running}
 use Rattle.plain.proofs.Ticks.{still, drift}
 use Rattle.remaining.specs.Remaining.{changeOf}
-use Rattle.remaining.specs.Foretold.{comeBy, timeless, Unchanged, UnchangedTill}
+use Rattle.foretold.specs.Foretold.{comeBy, timeless, Unchanged, UnchangedTill}
 
 module _ (p : Part) where
   -- ---- what a read asks of an operation
