@@ -33,5 +33,5 @@ until-end-spec =
     (λ c. rw (← c .before .before .running-of .ensures, c .enum-told .given .1))  -- returns
     (λ c. rw (← c .before .before .before .running-of .ensures, c .before .running .given .1))  -- returns-2
     (λ c. rw (← c .before .before .before .before .before .running-of .ensures, c .before .before .before .running2 .given .1, ← c .before .erase-time .ensures) (omega (arith, c .rest-of .ensures .0)))  -- returns-3
-    (λ c. rw (← c .before .before .before .before .before .running-of .ensures, c .before .before .before .running3 .given .1, ← c .before .erase-time2 .ensures) (c .rest-of2 .ensures .0))  -- returns-4
-    (λ c. rw (← c .before .before .before .before .before .running-of .ensures, c .before .before .before .running4 .given .1, ← c .before .chip-time .ensures) (c .rest-of3 .ensures .0)))  -- returns-5
+    (λ c. rw (← c .before .before .before .before .before .running-of .ensures, c .before .before .before .running3 .given .1, c .rest-of2 .ensures .0, c .before .erase-time2 .ensures))  -- returns-4
+    (λ c. rw (← c .before .before .before .before .before .running-of .ensures, c .before .before .before .running4 .given .1, c .rest-of3 .ensures .0, c .before .chip-time .ensures)))  -- returns-5
