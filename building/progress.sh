@@ -31,8 +31,9 @@ proved_crates() { sed -n 's/^rt: \([a-z0-9_]*\) proved.*/\1/p' "$log" 2>/dev/nul
 progress_begins() {
     total=$(below "$@" | wc -l | tr -d " ")
     last="it takes some minutes"
+    [ "$total" -gt 9 ] || last="it takes some seconds"
     [ ! -f "$copy.stamp" ] || last="the last build took $(duration "$(stamped "$copy" took)")"
-    say "proving $total crates and building $copy: $last; $log has what rt says"
+    say "proving and building $copy (crates to prove: $total); $last; $log has what rt says"
     rm -f "$log"
     watch 9>&- >/dev/null &
     watcher=$!
