@@ -50,5 +50,6 @@ join_archives() {
     archiver=$(kit_program llvm-ar) || archiver=$(command -v ar) || { echo "there is no llvm-ar in the kit, and no ar"; return 1; }
     rm -rf target/staticlib/joined
     mkdir target/staticlib/joined && cd target/staticlib/joined || return
-    "$archiver" x ../libemulator.a && "$archiver" x ../libgeometry.a && "$archiver" rcsD joined.a ./*.o && mv -f joined.a "$built"
+    "$archiver" x ../libemulator.a && "$archiver" x ../libgeometry.a && "$archiver" rcsD joined.a ./*.o &&
+        mv -f joined.a "$built"
 }

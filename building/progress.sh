@@ -33,7 +33,7 @@ progress_begins() {
     last="it takes some minutes"
     [ "$total" -gt 9 ] || last="it takes some seconds"
     [ ! -f "$copy.stamp" ] || last="the last build took $(duration "$(stamped "$copy" took)")"
-    say "proving and building $copy (crates to prove: $total); $last; $log has what rt says"
+    say "proving and building $copy (crates to prove: $total): $last"
     rm -f "$log"
     watch 9>&- >/dev/null &
     watcher=$!
@@ -44,7 +44,8 @@ watch() {
     tens=0
     while sleep 1 2>/dev/null && kill -0 $$ 2>/dev/null; do
         count=$(proved_crates | sort -u | wc -l | tr -d ' ')
-        line="$count of $total crates are proved, after $(duration $(($(date +%s) - began))) (the last: $(proved_crates | tail -n 1))"
+        line="$count of $total crates are proved, the last of them $(proved_crates | tail -n 1)"
+        line="$line, after $(duration $(($(date +%s) - began)))"
         if [ -t 2 ]; then
             printf '\r\033[K%s: %s' "$script" "$line" >&2
         elif [ "$((count / 10))" -gt "$tens" ]; then

@@ -50,8 +50,8 @@ stands() {
         { [ -z "$name" ] || [ "$(stamped "$1" kit)" = "$name" ]; }
 }
 
-# proved COPY BUILD CRATE..: COPY is what the function BUILD has left in the file `built`, by a proof of CRATE.. ; and `loader` and
-# `emulator` are what its code is run with. One build at a time: rt knows nothing of another in the same target/.
+# proved COPY BUILD CRATE..: COPY is what the function BUILD has left in the file `built`, by a proof of CRATE.. ; and `loader`
+# and `emulator` are what its code is run with. One build at a time: rt knows nothing of another in the same target/.
 proved() {
     if ! stands "$1"; then
         command -v rt >/dev/null ||
@@ -81,8 +81,10 @@ build() {
         die "rt has not proved and built $copy, and nothing is used in its stead: read the end of $log"
     fi
     [ "$of" = "$(sources)" ] || die "files under crates/ have changed while they were proved: run $script again"
-    { cp "$built" "$copy.new" && mv -f "$copy.new" "$copy" && stamp >"$copy.stamp.new" && mv -f "$copy.stamp.new" "$copy.stamp"; } ||
-        die "$copy cannot be written: see that its disk has room, and run $script again"
+    {
+        cp "$built" "$copy.new" && mv -f "$copy.new" "$copy" &&
+            stamp >"$copy.stamp.new" && mv -f "$copy.stamp.new" "$copy.stamp"
+    } || die "$copy cannot be written: see that its disk has room, and run $script again"
     say "all is proved, after $(duration $(($(date +%s) - began)))"
 }
 

@@ -24,7 +24,8 @@ if ! command -v "$compiler" >/dev/null; then
     { apt-get update && apt-get install -y --no-install-recommends $packages; } >/dev/null \
         || die "could not install $packages: install a C compiler for x86-64 as $compiler"
 fi
-mkdir -p target/c 2>/dev/null || die "$root cannot be written to, where the programs are to be built: work in a copy of it that you own"
+{ mkdir -p target/c && [ -w target/c ]; } 2>/dev/null ||
+    die "$root cannot be written to, where the programs are to be built: work in a copy of it that you own"
 
 # compile PROGRAM FILE|OPTION..: builds target/c/PROGRAM with the library.
 compile() {

@@ -14,6 +14,7 @@ int main(void)
     uint64_t charge = k5l_charge(K5L_SMALL, record, K5L_RECORD_WORDS);
     uint64_t block = k5l_full_block(0x7FFFFF);
 
-    printf("%d %d: %d us, %d pC, block %d, version " K5L_VERSION "\n", (int)fresh, (int)wait, (int)clock, (int)charge, (int)block);
+    printf("%d %d: %d us, %d pC, block %d, version " K5L_VERSION "\n", (int)fresh, (int)wait, (int)clock, (int)charge,
+           (int)block);
     return 0;
 }
