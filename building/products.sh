@@ -47,7 +47,8 @@ prove_library() {
 
 # The objects of both archives in one; their private names are local to each.
 join_archives() {
-    archiver=$(kit_program llvm-ar) || archiver=$(command -v ar) || { echo "there is no llvm-ar in the kit, and no ar"; return 1; }
+    archiver=$(kit_program llvm-ar) || archiver=$(command -v ar) ||
+        { echo "there is no llvm-ar in the kit, and no ar on the PATH"; return 1; }
     rm -rf target/staticlib/joined
     mkdir target/staticlib/joined && cd target/staticlib/joined || return
     "$archiver" x ../libemulator.a && "$archiver" x ../libgeometry.a && "$archiver" rcsD joined.a ./*.o &&
