@@ -2,7 +2,6 @@
  * What the header foretells, held to what then comes: up to the microsecond told nothing changes, at it just what is told, and at
  * the end nothing runs. Figures are written out by hand from document 01, Time, charge and the cells, and The cut.
  */
-#include "dice.h"
 #include "driver.h"
 
 #include <string.h>
@@ -109,9 +108,10 @@ static void just_so_long(struct ahead then)
 static void follow(void)
 {
     for (struct ahead then = ask(); then.change != K5L_NONE; then = ask()) {
-        uint64_t some[] = { 0, 1, then.change / 2, then.change - 1, below(then.change), below(then.change) };
+        uint64_t some[] = { 0, then.change / 2, then.change - 1 };
 
-        HOLDS(runs() && then.change >= 1 && then.change <= then.end);
+        if (!HOLDS(runs() && then.change >= 1 && then.change <= then.end))
+            return;
         HOLDS(then.block == K5L_NONE || then.word == K5L_NONE);
         keep();
         for (uint64_t passed = 0; passed < then.change && then.change <= 50; passed++)
