@@ -1,11 +1,14 @@
-# What a run comes to, as columns: what happened at one moment, and the stretch of time after it in which one thing went on. Past the
-# limits events are counted and left out, so that a picture of any run can be opened.
-function is_full() { return columns_drawn + columns >= 300 || panels_drawn >= 40 }
+# What a run comes to, as columns: what happened at one moment, and the stretch of time after it in which one thing went on. A picture
+# has limits, so that one of any run can be opened: `full_at` is the first line that is not drawn.
+function is_full() {
+    if (!full_at && (columns == 0 || has_stretch[columns]) && (columns_drawn + columns >= 300 || panels_drawn >= 40)) full_at = number_now
+    return full_at
+}
 
 # The column that is open for what happens now; 0 where the picture is full.
 function open_column() {
+    if (is_full()) return 0
     if (columns == 0 || has_stretch[columns]) {
-        if (is_full()) { left_out++; return 0 }
         columns++
         notes[columns] = inner_reads[columns] = has_stretch[columns] = cuts_at[columns] = 0
         clock_at[columns] = clock; charge_at[columns] = charge(); charge_near[columns] = charge_high * 1000000000 + charge_low
@@ -40,7 +43,7 @@ function place_reads(    i, n) {
 # Stretches of one doing are one, and the blocks of a chip erase, too.
 function stretch(n,    what, c) {
     what = doing " " (doing ~ /^program/ ? program_at : "") " " (doing ~ /^(nothing|programs|wipes)$/ ? "" : hand list)
-    if (columns && has_stretch[columns] && what == stretch_what[columns]) {
+    if (columns && has_stretch[columns] && !full_at && what == stretch_what[columns]) {
         inner_reads[columns] += late_reads; late_reads = 0; inner_waits[columns] += new_wait; band[columns] = band_words()
     } else {
         c = open_column()
@@ -67,10 +70,11 @@ function short_list() { return length(list) > 14 ? " " hand " .." : " " trimmed(
 
 # An accepted cut, with what the answers say that it exposed.
 function record_cut(debris,    b) {
+    if (maps >= 20 || is_full()) maps_left_out++
     if (!open_column()) return
     cuts_at[columns]++
     add_note("cut", number_now, "cut, " debris (debris == 1 ? " word" : " words"))
-    if (maps >= 20) { maps_left_out++; return }
+    if (maps >= 20) return
     maps++
     map_line[maps] = number_now; map_block[maps] = cut_block; map_word[maps] = cut_word; map_said[maps] = ""
     for (b = 0; b < block_count; b++) map_guard[maps, b] = guarded[b]

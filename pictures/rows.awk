@@ -22,7 +22,7 @@ function column_width(c,    w, i) {
     return w > i ? w : i
 }
 
-function inner_words(c) { return inner_waits[c] " waits" (inner_reads[c] ? ", " inner_reads[c] " reads" : "") }
+function inner_words(c) { return inner_waits[c] " waits" (inner_reads[c] ? ", " inner_reads[c] (inner_reads[c] > 1 ? " reads" : " read") : "") }
 
 function end_panel(    c, first, x, w) {
     if (columns) open_column()
@@ -83,17 +83,18 @@ function legend(x, y, class, s) { box(x, y - 10, 14, 12, class); words(x + 19, y
 function whole_picture(    x, s, height) {
     height = top + 20
     s = grouped(events + 0) " events, " grouped(refusals + 0) " refused" (malformed ? "; " grouped(malformed) " malformed lines, which change nothing" : "")
-    words(20, 30, "bold large", "Replay of " foreign(name))
+    words(20, 30, "bold large", foreign(heading))
     words(20, 50, "dim", s ". The number before each note is its line in the script.")
     words(20, 68, "dim", "Time is not to scale: a stretch is as wide as its words need, and grows with the digits of its microseconds, which stand below it with its charge. The green curve is the charge drawn, to the scale of its row.")
     x = legend(20, 92, "programs", "program")
     x = legend(x, 92, "waits", "erase window"); x = legend(x, 92, "erases", "block erase"); x = legend(x, 92, "rests", "erase suspended")
     x = legend(x, 92, "wipes", "chip erase"); x = legend(x, 92, "nothing", "nothing runs"); x = legend(x, 92, "hit", "a cut's block of debris")
     x = legend(x, 92, "part", "block of a cut's word"); legend(x, 92, "guard", "protected block")
-    if (left_out || maps_left_out) {
-        words(20, height, "bold", "Not drawn, as the picture is full: " grouped(left_out + 0) " later moments and stretches, " grouped(maps_left_out + 0) " maps of cuts.")
+    if (full_at || maps_left_out) {
+        words(20, height, "bold cut", "The picture is full: " (full_at ? "what follows from line " full_at " on is not drawn" : "") (full_at && maps_left_out ? ", and " : "") \
+            (maps_left_out ? "the maps of " maps_left_out " cuts are not" : "") ".")
         height += 24
     }
     if (!panels_drawn) { words(20, height, "", "No event was answered."); height += 24 }
-    picture(1400, height, "Replay of " foreign(name), s ": charge over time, with what went on as bands, and what each cut exposed", style())
+    picture(1400, height, foreign(heading), s ": charge over time, with what went on as bands, and what each cut exposed", style())
 }

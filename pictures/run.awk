@@ -1,4 +1,4 @@
-# A run of ./replay, read from its script and its answers (`script` and `answers` are the files, `name` the heading): each event is
+# A run of ./replay, read from its script and its answers (`script` and `answers` are the files): each event is
 # followed by follow.awk and recorded by record.awk, and rows.awk draws a panel for each device. Clock, charge and what a cut
 # exposed have to be the answers'.
 function broken(why) { die("line " number_now " of the script: " why ": are these the answers of this script?") }
@@ -70,7 +70,7 @@ function answer(    p, n) {
 }
 
 BEGIN {
-    part = "Small"; name = ENVIRON["NAME"]
+    part = "Small"; heading = ENVIRON["HEADING"]
     read_parts(); lay_out(part); read_figures()
     follow_fresh()
     top = head_height()
