@@ -67,12 +67,23 @@ pub fn exposed_word(part: u64, words: &[u64]) -> u64
 pub fn reads_cells(part: u64, words: &[u64], bank: usize) -> bool
     ensures { λ r. ⌜ r ≡ faceReadsCells part (now (words .entry)) bank ⌝ }
 {
+    // Called in two places, it is left out of line: what it saves on the stack is not saved for an idle device.
+    if !calls::is_part(part) {
+        return gives_cells(part, words, bank);
+    }
     if image::is_idle(words) {
         if calls::part_named(part).banks() <= bank {
             return false;
         }
         return idling::is_sound(part, words);
     }
+    gives_cells(part, words, bank)
+}
+
+// The same of a device in any state.
+fn gives_cells(part: u64, words: &[u64], bank: usize) -> bool
+    ensures { λ r. ⌜ r ≡ faceReadsCells part (now (words .entry)) bank ⌝ }
+{
     if !calls::stands(part, words) {
         return false;
     }
