@@ -12,3 +12,4 @@ pub mod CallPromises
 pub mod CallAsked
 pub mod SuspendedProgram
 pub mod Replayed
+pub mod Mapped

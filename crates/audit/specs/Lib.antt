@@ -4,4 +4,5 @@ pub mod Performed
 pub mod Promises
 pub mod Called
 pub mod CallPromises
+pub mod Mapped
 pub mod Replayed
