@@ -1,4 +1,4 @@
-# The functions that a C header declares and does not define, one a line: comments, directives and bodies are passed over.
+# The functions that C headers declare and do not define, one a line: comments, directives and bodies are passed over.
 function tell(statement) {
     if (statement ~ /^[ \t]*(static|typedef)/ || !match(statement, /k5l_[a-z0-9_]*[ \t]*\(/)) return
     name = substr(statement, RSTART, RLENGTH - 1)
@@ -14,7 +14,7 @@ function tell(statement) {
 
 END {
     gsub(/\/\*[^*]*\*+([^\/*][^*]*\*+)*\//, " ", text)
-    sub(/extern "C" \{/, "", text)
+    gsub(/extern "C" \{/, "", text)
     while (match(text, /[;{}]/)) {
         mark = substr(text, RSTART, 1)
         if (depth == 0) statement = statement substr(text, 1, RSTART - 1)
