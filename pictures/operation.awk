@@ -77,8 +77,17 @@ function wrote_arrow(from, to, cause, clause, why) {
     arrow(from, to, cause)
 }
 
+# The codes that the words of the arrows have.
+function codes() {
+    rests_on(commands, "else if is w 0xA0 then unless (programIsSuspended s) (Goes (Entering ProgramData))")
+    rests_on(commands, "(if isAt a 0x555 && is w 0x10 then chipErase p bits")
+    rests_on(commands, "else if is w 0x30 then blockErase p bits (blockOf p a)")
+    rests_on(commands, "else orReset w (if is w 0x30 then resumes s else Falls Sequence)")
+    rests_on(commands, "else if is w 0xB0 then Starts (EraseSuspended (suspended (eraseLeft e (eraseTime p)) Nothing))")
+}
+
 function read_writes(    c) {
-    read_starts()
+    read_starts(); codes()
     wrote_arrow("Idle", "Programming", "A0H, then address and data", "begins p Unsuspended d", \
         "written p bits Idle c a w = entered p bits Unsuspended c a w")
     c = "else if is w 0x80 then unless (isSuspended s) (Goes (Entering EraseSetup))"

@@ -109,6 +109,12 @@ function edge(from, cause, to) {
 
 function read_register(    file, i, p, n, state) {
     file = "crates/plain/specs/Commands.antt"
+    rests_on(file, "orReset w else′ = if is w 0xF0 then Goes Ground else else′")
+    rests_on(file, "unless suspended effect = if suspended then Falls Suspended else effect")
+    rests_on(file, "unlessLocked bits new = if bits .lock then Falls Locked else Protects new")
+    rests_on("crates/plain/specs/Cycles.antt", "isAt a at = eqb (a % 2048) at")
+    rests_on("crates/plain/specs/Cycles.antt", "is w code = eqb (w % 256) code")
+    rests_on("crates/plain/specs/Cycles.antt", "isDyb w value = eqb (w % 16) value")
     read_clauses(file, "entered"); read_clauses(file, "continued")
     for (i = 1; i <= clauses["entered"]; i++) {
         n = parts_of(left["entered", i], "", p)
