@@ -113,8 +113,11 @@ function applied(d,    name, a, b, c) {
     name = token[d, at[d]]
     if (name == "cond") { at[d]++; a = atom(d); b = atom(d); c = atom(d); return a ? b : c }
     if (name == "ltb") { at[d]++; a = atom(d); b = atom(d); return a < b }
-    if (name in clauses) { at[d]++; a = atom(d); if (split(left[name, 1], arguments, " ") == 3) b = atom(d); return value_of(name, a, b) }
-    return atom(d)
+    if (!(name in clauses)) return atom(d)
+    at[d]++
+    a = atom(d)
+    if (split(left[name, 1], arguments, " ") == 3) b = atom(d)
+    return value_of(name, a, b)
 }
 
 function atom(d,    t, v) {

@@ -43,10 +43,12 @@ function hears(a, w,    code) {
         else if (code == 48 && doing == "rests") { doing = "erases"; said = "resumes" }
     } else if (command == "Identity" || command == "Dybs") { command = "Ground"; said = "array reading" }
     else if (command == "ProgramData") begins_program(a, w)
-    else if (command == "DybData") { dyb[block_at(a)] = w % 16; command = "Ground"; said = "DYB " block_at(a) (w % 16 ? " set" : " cleared") }
+    else if (command == "DybData") sets_dyb(block_at(a), w % 16)
     else if (code == 240) command = "Ground"
     else hears_cycle(a, code)
 }
+
+function sets_dyb(b, bit) { dyb[b] = bit; command = "Ground"; said = "DYB " b (bit ? " set" : " cleared") }
 
 function hears_cycle(a, code) {
     if (command == "Unlock") command = "Unlocked"

@@ -8,20 +8,29 @@ function places() {
 function place(state, x, y) { place_x[state] = x; place_y[state] = y }
 
 function routes() {
-    routed("Idle>Programming", "M380 375L215 375", 297, 368, "middle"); routed("Programming>Idle", "M210 405L375 405", 297, 422, "middle")
-    routed("Idle>Window", "M570 375L735 375", 655, 368, "middle"); routed("Window>Idle", "M740 405L575 405", 655, 422, "middle")
-    routed("Window>Window", "M790 360C780 310 880 310 870 356", 830, 312, "middle"); routed("Window>Erasing", "M930 390L1075 390", 1003, 383, "middle")
+    routed("Idle>Programming", "M380 375L215 375", 297, 368, "middle")
+    routed("Programming>Idle", "M210 405L375 405", 297, 422, "middle")
+    routed("Idle>Window", "M570 375L735 375", 655, 368, "middle")
+    routed("Window>Idle", "M740 405L575 405", 655, 422, "middle")
+    routed("Window>Window", "M790 360C780 310 880 310 870 356", 830, 312, "middle")
+    routed("Window>Erasing", "M930 390L1075 390", 1003, 383, "middle")
     routed("Erasing>Erasing", "M1190 360C1180 300 1260 300 1250 356", 1290, 304, "end")
     routed("Erasing>Idle", "M1120 360C1060 250 640 250 545 355", 850, 262, "middle")
-    routed("Erasing>EraseSuspended Nothing", "M1150 420L1080 555", 1108, 485, "end"); routed("EraseSuspended Nothing>Erasing", "M1100 570C1180 540 1190 480 1190 425", 1192, 500, "")
+    routed("Erasing>EraseSuspended Nothing", "M1150 420L1080 555", 1108, 485, "end")
+    routed("EraseSuspended Nothing>Erasing", "M1100 570C1180 540 1190 480 1190 425", 1192, 500, "")
     routed("Window>EraseSuspended Nothing", "M850 420L940 555", 890, 500, "end")
-    routed("EraseSuspended Nothing>EraseSuspended Runs", "M910 575L675 575", 792, 568, "middle"); routed("EraseSuspended Runs>EraseSuspended Nothing", "M670 605L905 605", 792, 622, "middle")
-    routed("Idle>ChipErasing", "M440 360L440 215", 432, 290, "end"); routed("ChipErasing>Idle", "M510 210L510 355", 518, 290, "")
+    routed("EraseSuspended Nothing>EraseSuspended Runs", "M910 575L675 575", 792, 568, "middle")
+    routed("EraseSuspended Runs>EraseSuspended Nothing", "M670 605L905 605", 792, 622, "middle")
+    routed("Idle>ChipErasing", "M440 360L440 215", 432, 290, "end")
+    routed("ChipErasing>Idle", "M510 210L510 355", 518, 290, "")
     routed("ChipErasing>ChipErasing", "M570 165C630 150 630 210 575 195", 626, 184, "")
     routed("ProgramSuspended>Programming", "M115 560L115 425", 123, 495, "")
 }
 
-function routed(key, d, x, y, anchor) { route[key] = d; words_x[key] = x; words_y[key] = y; words_anchor[key] = anchor; keys[++routes_known] = key }
+function routed(key, d, x, y, anchor) {
+    keys[++routes_known] = key
+    route[key] = d; words_x[key] = x; words_y[key] = y; words_anchor[key] = anchor
+}
 
 function draw_state(state,    x, y, p) {
     if (!(state in place_x)) die("the state " state " has no place in the picture: give it one in pictures/operation-places.awk")
@@ -53,9 +62,13 @@ BEGIN {
     }
     rests_on("crates/plain/specs/Cut.antt", "cutDevice r = device (r .meter) Ground Idle (afterCut (r .bits))")
     words(20, 30, "bold large", "The states of an operation")
-    words(20, 50, "dim", "Each arrow has the write or the time that causes it. A cut leads from every state to Idle. A suspended program is held by stored records alone: no arrow leads there.")
-    words(20, 68, "dim", "A start may be refused instead: PROTECTED, SUSPENDED in a listed block, BANK. A red frame draws the running current.")
-    words(20, 86, "dim", "Drawn from crates/plain: src/lib.rt has the states, specs/Time.antt what time does, Commands.antt what writes do; Operations.antt, Cut.antt and Figures.antt the rest.")
-    if (!failed) picture(1300, 650, "The states of an operation", "What runs or is suspended, and the writes and times that lead from one state to another", \
+    words(20, 50, "dim", "Each arrow has the write or the time that causes it. A cut leads from every state to Idle. A suspended program " \
+        "is held by stored records alone: no arrow leads there.")
+    words(20, 68, "dim", "A start may be refused instead: PROTECTED, SUSPENDED in a listed block, BANK. A red frame draws the running " \
+        "current.")
+    words(20, 86, "dim", "Drawn from crates/plain: src/lib.rt has the states, specs/Time.antt what time does, Commands.antt what " \
+        "writes do; Operations.antt, Cut.antt and Figures.antt the rest.")
+    if (!failed) picture(1300, 650, "The states of an operation", \
+        "What runs or is suspended, and the writes and times that lead from one state to another", \
         ".running { fill: #fff5f5; stroke: #c53030 } .still { fill: #ebf8ff; stroke: #2b6cb0 }")
 }

@@ -1,8 +1,8 @@
-# The states of an operation: the declared variants (a suspended erase by what is inside it), what a microsecond does by the clauses of
-# Time.antt, and what writes start by the clauses of Commands.antt. An arrow that no table has, or that has lost its clause, fails.
+# The states of an operation: the declared variants (a suspended erase by what is inside it), what a microsecond does by the clauses
+# of Time.antt, and what writes start by those of Commands.antt. An arrow that has no place, or has lost its clause, is an error.
 function arrow(from, to, cause) {
     cause_of[from ">" to] = cause
-    if (!((from ">" to) in route)) die("the arrow from " from " to " to " has no place in the picture: give it one in pictures/operation.awk")
+    if (!((from ">" to) in route)) die("the arrow from " from " to " to " has no place: give it one in pictures/operation-places.awk")
 }
 
 # ---- time
@@ -29,8 +29,9 @@ function inside_ticks(from,    i, p) {
 
 # `if last (..) then A else B`, where B goes on as it is; or a state that time leaves alone.
 function ticks(from, s,    p, q) {
-    if (s !~ /^if last /) { if (target(s) != from) die("time leads from " from " to " target(s) " in a way that cannot be read"); return }
-    if (parts_of(s, "else", q) != 2 || parts_of(q[1], "then", p) != 2 || target(q[2]) != from) die("what time does to " from " cannot be read")
+    if (s !~ /^if last / && target(s) == from) return
+    if (parts_of(s, "else", q) != 2 || parts_of(q[1], "then", p) != 2 || p[1] !~ /^if last / || target(q[2]) != from)
+        die("what time does to " from " cannot be read")
     if (p[2] !~ /^onward p /) { arrow(from, target(p[2]), "after " full_time(from) " " micro); return }
     split(p[2], q, " ")
     arrow(from, q[3], "block finished (" full_time(from) " " micro "): the next one")
@@ -45,7 +46,11 @@ function target(s,    p) {
 
 function first_word(s) { gsub(/[()]/, " ", s); s = trimmed(s); sub(/ .*/, "", s); return s }
 
-function full_time(from) { return grouped(figure[from ~ /Window/ ? "windowTime" : from ~ /Chip/ ? "chipTime" : from ~ /Erasing/ ? "eraseTime" : "programTime"]) }
+function full_time(state) {
+    if (state == "Window") return grouped(figure["windowTime"])
+    if (state == "ChipErasing") return grouped(figure["chipTime"])
+    return grouped(figure[state == "Erasing" ? "eraseTime" : "programTime"])
+}
 
 # ---- writes
 
@@ -72,17 +77,30 @@ function wrote_arrow(from, to, cause, clause, why) {
     arrow(from, to, cause)
 }
 
+# The codes that the words of the arrows have.
+function codes() {
+    rests_on(commands, "else if is w 0xA0 then unless (programIsSuspended s) (Goes (Entering ProgramData))")
+    rests_on(commands, "(if isAt a 0x555 && is w 0x10 then chipErase p bits")
+    rests_on(commands, "else if is w 0x30 then blockErase p bits (blockOf p a)")
+    rests_on(commands, "else orReset w (if is w 0x30 then resumes s else Falls Sequence)")
+    rests_on(commands, "else if is w 0xB0 then Starts (EraseSuspended (suspended (eraseLeft e (eraseTime p)) Nothing))")
+}
+
 function read_writes(    c) {
-    read_starts()
-    wrote_arrow("Idle", "Programming", "A0H, then address and data", "begins p Unsuspended d", "written p bits Idle c a w = entered p bits Unsuspended c a w")
+    read_starts(); codes()
+    wrote_arrow("Idle", "Programming", "A0H, then address and data", "begins p Unsuspended d", \
+        "written p bits Idle c a w = entered p bits Unsuspended c a w")
     c = "else if is w 0x80 then unless (isSuspended s) (Goes (Entering EraseSetup))"
     wrote_arrow("Idle", "Window", "80H, then 30H in a block", "blockErase p bits b", c)
     wrote_arrow("Idle", "ChipErasing", "80H, then 10H", "chipErase p bits", c)
-    wrote_arrow("ProgramSuspended", "Programming", "30H", "resumes (OfProgram q)", "written p bits (ProgramSuspended q) c a w = entered p bits (OfProgram q) c a w")
+    wrote_arrow("ProgramSuspended", "Programming", "30H", "resumes (OfProgram q)", \
+        "written p bits (ProgramSuspended q) c a w = entered p bits (OfProgram q) c a w")
     c = "written p bits (EraseSuspended s) c a w = inSuspendedErase (s .inside) (entered p bits (OfErase (s .erase)) c a w)"
     wrote_arrow("EraseSuspended Nothing", "Erasing", "30H", "resumes (OfErase e)", c)
-    wrote_arrow("EraseSuspended Nothing", "EraseSuspended Runs", "A0H, then address and data off the list", "begins p (OfErase e) d", c)
-    wrote_arrow("Window", "Window", "30H adds a block: " full_time("Window") " " micro " again", "addBlock p bits e a", "if is w 0x30 then addBlock p bits e a")
+    wrote_arrow("EraseSuspended Nothing", "EraseSuspended Runs", "A0H, then address and data off the list", \
+        "begins p (OfErase e) d", c)
+    wrote_arrow("Window", "Window", "30H adds a block: " full_time("Window") " " micro " again", "addBlock p bits e a", \
+        "if is w 0x30 then addBlock p bits e a")
     c = "written p bits (Window e) c a w = inWindow p bits e a w"
     wrote_arrow("Window", "EraseSuspended Nothing", "B0H", "inWindow p bits e a w", c)
     rests_on(commands, "effected r Drops = answer Sequence 0 (device (r .meter) Ground Idle (r .bits))")
@@ -95,7 +113,8 @@ function read_writes(    c) {
 
 function read_states(    i, p) {
     read_clauses(commands, "written"); read_clauses(time_file, "current")
-    read_clauses("crates/plain/specs/Operations.antt", "runningOf"); read_clauses("crates/plain/specs/Operations.antt", "runningInside")
+    read_clauses("crates/plain/specs/Operations.antt", "runningOf")
+    read_clauses("crates/plain/specs/Operations.antt", "runningInside")
     rests_on(commands, "inSuspendedErase (Runs q) effect = Stays Busy")
     rests_on(commands, "inErase e w = if is w 0xB0 then Starts (EraseSuspended (suspended e Nothing)) else Stays Busy")
     busy["EraseSuspended Runs"] = "every write is BUSY"; busy["Erasing"] = "any other write is BUSY"
@@ -103,8 +122,14 @@ function read_states(    i, p) {
         parts_of(left["written", i], "", p)
         if (right["written", i] == "Stays Busy") busy[first_word(p[4])] = "every write is BUSY"
     }
-    for (i = 1; i <= clauses["current"]; i++) { parts_of(left["current", i], "", p); drawing[first_word(p[3])] = first_word(right["current", i]) }
-    for (i = 1; i <= clauses["runningOf"]; i++) { parts_of(left["runningOf", i], "", p); runs[first_word(p[2])] = first_word(right["runningOf", i]) }
+    for (i = 1; i <= clauses["current"]; i++) {
+        parts_of(left["current", i], "", p)
+        drawing[first_word(p[3])] = first_word(right["current", i])
+    }
+    for (i = 1; i <= clauses["runningOf"]; i++) {
+        parts_of(left["runningOf", i], "", p)
+        runs[first_word(p[2])] = first_word(right["runningOf", i])
+    }
     for (i = 1; i <= clauses["runningInside"]; i++) {
         parts_of(left["runningInside", i], "", p)
         runs["EraseSuspended " first_word(p[2])] = first_word(right["runningInside", i])

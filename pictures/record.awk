@@ -1,7 +1,8 @@
 # What a run comes to, as columns: what happened at one moment, and the stretch of time after it in which one thing went on. A picture
 # has limits, so that one of any run can be opened: `full_at` is the first line that is not drawn.
 function is_full() {
-    if (!full_at && (columns == 0 || has_stretch[columns]) && (columns_drawn + columns >= 300 || panels_drawn >= 40)) full_at = number_now
+    if (full_at || columns && !has_stretch[columns]) return full_at
+    if (columns_drawn + columns >= 300 || panels_drawn >= 40) full_at = number_now
     return full_at
 }
 
@@ -24,7 +25,10 @@ function add_note(class, n, s,    at) {
         if (class == "read") return
         for (at = 8; at && note_class[columns, at] != "read"; at--);
         if (!at) return
-        for (; at < 8; at++) { note_words[columns, at] = note_words[columns, at + 1]; note_class[columns, at] = note_class[columns, at + 1] }
+        for (; at < 8; at++) {
+            note_words[columns, at] = note_words[columns, at + 1]
+            note_class[columns, at] = note_class[columns, at + 1]
+        }
     }
     note_words[columns, at] = substr(foreign(n " " s), 1, 30)
     note_class[columns, at] = class

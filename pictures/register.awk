@@ -62,9 +62,11 @@ function choice(state, cause, s,    p, q, test, then, other) {
     if (parts_of(s, "else", q) < 2 || parts_of(q[1], "then", p) != 2) die("the choice `" s "` cannot be read")
     other = substr(s, length(q[1]) + 7)
     test = bare(substr(p[1], 4)); then = p[2]
-    if (test ~ /^not / && then == "Falls Sequence") { prefix[state] = test_words(substr(test, 5)) "/"; comes_to(state, cause, other) }
-    else if (test ~ /^protected / && then == "Falls Protected") { proviso = "PROTECTED if the block is"; comes_to(state, cause, other); proviso = "" }
-    else { comes_to(state, prefix[state] test_words(test), then); comes_to(state, cause, other) }
+    if (test ~ /^not / && then == "Falls Sequence") prefix[state] = test_words(substr(test, 5)) "/"
+    else if (test ~ /^protected / && then == "Falls Protected") proviso = "PROTECTED if the block is"
+    else comes_to(state, prefix[state] test_words(test), then)
+    comes_to(state, cause, other)
+    proviso = ""
 }
 
 function goes(state, cause, s,    p) {
@@ -85,12 +87,14 @@ function leaf(state, cause, s,    p) {
 }
 
 # The refusals that a starting function of Commands.antt may give instead.
-function refusals_of(name,    i, s, r) {
+function refusals_of(name,    i, s, r, refusal) {
     if (!defines("crates/plain/specs/Commands.antt", name)) return ""
     read_clauses("crates/plain/specs/Commands.antt", name)
     for (i = 1; i <= clauses[name]; i++)
-        for (s = right[name, i]; match(s, /Falls [A-Z][a-z]*/); s = substr(s, RSTART + RLENGTH))
-            if (!index(r, toupper(substr(s, RSTART + 6, RLENGTH - 6)))) r = r (r == "" ? "or " : ", ") toupper(substr(s, RSTART + 6, RLENGTH - 6))
+        for (s = right[name, i]; match(s, /Falls [A-Z][a-z]*/); s = substr(s, RSTART + RLENGTH)) {
+            refusal = toupper(substr(s, RSTART + 6, RLENGTH - 6))
+            if (!index(r, refusal)) r = r (r == "" ? "or " : ", ") refusal
+        }
     return r
 }
 
@@ -105,6 +109,12 @@ function edge(from, cause, to) {
 
 function read_register(    file, i, p, n, state) {
     file = "crates/plain/specs/Commands.antt"
+    rests_on(file, "orReset w else′ = if is w 0xF0 then Goes Ground else else′")
+    rests_on(file, "unless suspended effect = if suspended then Falls Suspended else effect")
+    rests_on(file, "unlessLocked bits new = if bits .lock then Falls Locked else Protects new")
+    rests_on("crates/plain/specs/Cycles.antt", "isAt a at = eqb (a % 2048) at")
+    rests_on("crates/plain/specs/Cycles.antt", "is w code = eqb (w % 256) code")
+    rests_on("crates/plain/specs/Cycles.antt", "isDyb w value = eqb (w % 16) value")
     read_clauses(file, "entered"); read_clauses(file, "continued")
     for (i = 1; i <= clauses["entered"]; i++) {
         n = parts_of(left["entered", i], "", p)
@@ -148,12 +158,13 @@ function place(state, depth,    i, top, to) {
     y_of[state] = (y_of[child[state, 1]] + y_of[child[state, children[state]]]) / 2
 }
 
-function draw_tree(state,    i, to, x, y) {
+function draw_tree(state,    i, to, x, y, s) {
     x = x_of[state]; y = y_of[state]
     draw_state(state, x, y)
     for (i = 1; i <= children[state]; i++) {
         to = child[state, i]
-        path("M" x + 96 " " round(y) "C" x + 112 " " round(y) " " x + 102 " " round(y_of[to]) " " x + 118 " " round(y_of[to]) "L" x_of[to] - 3 " " round(y_of[to]), "arrow")
+        s = " " round(y_of[to])
+        path("M" x + 96 " " round(y) "C" x + 112 " " round(y) " " x + 102 s " " x + 118 s "L" x_of[to] - 3 s, "arrow")
         words(x + 118, y_of[to] - 5, "small mono", child_cause[state, i])
         if (child_proviso[state, i] != "") words(x + 118, y_of[to] + 12, "small dim", "(" footnote(child_proviso[state, i]) ")")
         draw_tree(to)
@@ -161,7 +172,12 @@ function draw_tree(state,    i, to, x, y) {
 }
 
 function draw_state(state, x, y,    p) {
-    if (state ~ /^=/) { sub(/^= /, "", state); sub(/ @.*/, "", state); words(x + 2, y + 4, "", state); words(x + 2, y + 17, "small dim", or_refused[state]); return }
+    if (sub(/^= /, "", state)) {
+        sub(/ @.*/, "", state)
+        words(x + 2, y + 4, "", state)
+        words(x + 2, y + 17, "small dim", or_refused[state])
+        return
+    }
     box(x, y - 16, 96, 32, state in resets ? "state" : "data")
     if (split(state, p, " ") == 1) words(x + 48, y + 4, "middle", state)
     else { words(x + 48, y - 4, "middle small dim", p[1]); words(x + 48, y + 9, "middle", p[2]) }
@@ -180,11 +196,14 @@ BEGIN {
     place("Ground", 0)
     draw_tree("Ground")
     words(20, 30, "bold large", "The command register")
-    words(20, 50, "dim", "While nothing runs: the " many + 1 " states, and what each write does, as address/data or data at any address. Drawn from crates/plain/specs/Commands.antt and Cycles.antt.")
-    words(20, 68, "dim", "Addresses are compared on their low 11 bits, data on their low 8. From a solid frame F0H goes back to ground; a dashed frame is a data cycle, where F0H is data.")
-    words(20, 86, "dim", "Any other write is SEQUENCE, and goes back to ground. So do the refusals under an arrow, and so does each effect.")
+    words(20, 50, "dim", "While nothing runs: the " many + 1 " states, and what each write does, as address/data or data at any address. " \
+        "Drawn from crates/plain/specs/Commands.antt and Cycles.antt.")
+    words(20, 68, "dim", "Addresses are compared on their low 11 bits, data on their low 8. From a solid frame F0H goes back to ground; " \
+        "a dashed frame is a data cycle, where F0H is data.")
+    words(20, 86, "dim", "Any other write is SEQUENCE, and goes back to ground. So do the refusals under an arrow, and each effect.")
     for (i = 1; i <= footnotes; i++) told = told "(" i ") " footnote_words[i] (i < footnotes ? ";  " : ".")
     words(20, 104, "dim", told)
-    if (!failed) picture(1460, next_y, "The command register", "The states of the command register as a tree from ground, each arrow with the write that causes it", \
+    if (!failed) picture(1460, next_y, "The command register", \
+        "The states of the command register as a tree from ground, each arrow with the write that causes it", \
         ".state { fill: #ebf8ff; stroke: #2b6cb0 } .data { fill: #fffaf0; stroke: #c05621; stroke-dasharray: 4 3 }")
 }

@@ -4,7 +4,8 @@ function style() {
         " .curve { stroke: #2f855a; stroke-width: 2; fill: none } .under { fill: #c6f6d5 } .tick { stroke: #a0aec0; stroke-dasharray: 2 2 }" \
         " .power { stroke: #c53030; stroke-width: 2.5 } .nothing { fill: #edf2f7 } .programs { fill: #90cdf4 } .waits { fill: #faf089 }" \
         " .erases { fill: #fbb36b } .wipes { fill: #fc9d9d } .rests { fill: #d6bcfa } .frame { fill: none; stroke: #cbd5e0 }" \
-        " .safe { fill: #ffffff; stroke: #cbd5e0 } .guard { fill: #cbd5e0; stroke: #a0aec0 } .hit { fill: #c53030; stroke: #742a2a } .part { fill: #ed8936; stroke: #7b341e }"
+        " .safe { fill: #ffffff; stroke: #cbd5e0 } .guard { fill: #cbd5e0; stroke: #a0aec0 } .hit { fill: #c53030; stroke: #742a2a }" \
+        " .part { fill: #ed8936; stroke: #7b341e }"
 }
 
 function wider(width, s) { return length(s) * 6.1 + 10 > width ? length(s) * 6.1 + 10 : width }
@@ -22,13 +23,16 @@ function column_width(c,    w, i) {
     return w > i ? w : i
 }
 
-function inner_words(c) { return inner_waits[c] " waits" (inner_reads[c] ? ", " inner_reads[c] (inner_reads[c] > 1 ? " reads" : " read") : "") }
+function inner_words(c) {
+    return inner_waits[c] " waits" (inner_reads[c] ? ", " inner_reads[c] (inner_reads[c] > 1 ? " reads" : " read") : "")
+}
 
 function end_panel(    c, first, x, w) {
     if (columns) open_column()
-    if (!columns) { late_reads = 0; return }
+    if (!columns) { late_reads = panel_line = 0; return }
     panels_drawn++
-    words(20, top + 16, "bold", "device " panels_drawn ": " grouped(clock) " " micro ", " grouped(charge()) " pC")
+    words(20, top + 16, "bold", "device " panels_drawn ", from line " panel_line ": " \
+        grouped(clock) " " micro ", " grouped(charge()) " pC")
     top += 26
     first = 1; x = 20
     for (c = 1; c <= columns; c++) {
@@ -39,7 +43,8 @@ function end_panel(    c, first, x, w) {
     }
     draw_row(first, columns)
     draw_maps()
-    columns_drawn += columns; columns = 0; late_reads = 0
+    columns_drawn += columns
+    columns = late_reads = panel_line = 0
 }
 
 function draw_row(first, last,    c, i, n, most, y) {
@@ -60,14 +65,15 @@ function draw_row(first, last,    c, i, n, most, y) {
 # The height of a charge, between that of its row's begin and that of its end.
 function level(y, q) { return y + 58 - (highest > lowest ? 56 * (q - lowest) / (highest - lowest) : 0) }
 
-function draw_column(c, y,    x, w, y0, y1) {
+function draw_column(c, y,    x, w, y0, y1, curve) {
     x = column_x[c]; w = column_w[c]
     words(x + 4, y + 148, "small mono dim", "at " grouped(clock_at[c]) " " micro)
     words(x + 4, y + 160, "small mono dim", grouped(charge_at[c]) " pC")
     if (!has_stretch[c]) return
     y0 = level(y, charge_near[c]); y1 = level(y, charge_near[c] + stretch_charge[c])
-    path("M" round(x) " " round(y + 58) "L" round(x) " " round(y0) "L" round(x + w) " " round(y1) "L" round(x + w) " " round(y + 58) "z", "under")
-    path("M" round(x) " " round(y0) "L" round(x + w) " " round(y1), "curve")
+    curve = round(x) " " round(y0) "L" round(x + w) " " round(y1)
+    path("M" round(x) " " round(y + 58) "L" curve "L" round(x + w) " " round(y + 58) "z", "under")
+    path("M" curve, "curve")
     box(x, y + 64, w, 18, band_class[c])
     words(x + 4, y + 77, "small mono", band[c])
     if (inner_band[c] != "") { box(x, y + 84, w, 18, "programs"); words(x + 4, y + 97, "small mono", inner_band[c]) }
@@ -78,23 +84,36 @@ function draw_column(c, y,    x, w, y0, y1) {
 
 function head_height() { micro = "\302\265s"; return 108 }
 
-function legend(x, y, class, s) { box(x, y - 10, 14, 12, class); words(x + 19, y, "", s); return x + 19 + length(s) * 6.6 + 16 }
+function legend(x, y, class, s) {
+    box(x, y - 10, 14, 12, class)
+    words(x + 19, y, "", s)
+    return x + 19 + length(s) * 6.6 + 16
+}
 
-function whole_picture(    x, s, height) {
+function legends(y,    x) {
+    x = legend(20, y, "programs", "program")
+    x = legend(x, y, "waits", "erase window")
+    x = legend(x, y, "erases", "block erase")
+    x = legend(x, y, "rests", "erase suspended")
+    x = legend(x, y, "wipes", "chip erase")
+    x = legend(x, y, "nothing", "nothing runs")
+    x = legend(x, y, "hit", "a cut's block of debris")
+    x = legend(x, y, "part", "block of a cut's word")
+    legend(x, y, "guard", "protected block")
+}
+
+function whole_picture(    s, height) {
     height = top + 20
-    s = grouped(events + 0) " events, " grouped(refusals + 0) " refused" (malformed ? "; " grouped(malformed) " malformed lines, which change nothing" : "")
+    s = grouped(events + 0) " events, " grouped(refusals + 0) " refused"
+    if (malformed) s = s "; " grouped(malformed) " malformed lines, which change nothing"
     words(20, 30, "bold large", foreign(heading))
     words(20, 50, "dim", s ". The number before each note is its line in the script.")
-    words(20, 68, "dim", "Time is not to scale: a stretch is as wide as its words need, and grows with the digits of its microseconds, which stand below it with its charge. The green curve is the charge drawn, to the scale of its row.")
-    x = legend(20, 92, "programs", "program")
-    x = legend(x, 92, "waits", "erase window"); x = legend(x, 92, "erases", "block erase"); x = legend(x, 92, "rests", "erase suspended")
-    x = legend(x, 92, "wipes", "chip erase"); x = legend(x, 92, "nothing", "nothing runs"); x = legend(x, 92, "hit", "a cut's block of debris")
-    x = legend(x, 92, "part", "block of a cut's word"); legend(x, 92, "guard", "protected block")
-    if (full_at || maps_left_out) {
-        words(20, height, "bold cut", "The picture is full: " (full_at ? "what follows from line " full_at " on is not drawn" : "") (full_at && maps_left_out ? ", and " : "") \
-            (maps_left_out ? "the maps of " maps_left_out " cuts are not" : "") ".")
-        height += 24
-    }
+    words(20, 68, "dim", "Time is not to scale: a stretch is as wide as its words need, and grows with the digits of its microseconds, which " \
+        "stand below it with its charge. The green curve is the charge drawn, to the scale of its row.")
+    legends(92)
+    if (full_at) words(20, height, "bold cut", "The picture is full: what follows from line " full_at " on is not drawn.")
+    if (maps_left_out) words(full_at ? 520 : 20, height, "bold cut", "The maps of " maps_left_out " cuts are not drawn.")
+    if (full_at || maps_left_out) height += 24
     if (!panels_drawn) { words(20, height, "", "No event was answered."); height += 24 }
     picture(1400, height, foreign(heading), s ": charge over time, with what went on as bands, and what each cut exposed", style())
 }

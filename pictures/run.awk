@@ -20,13 +20,14 @@ function number_of(s) {
     return s == "" ? 0 : number(s)
 }
 
-function words_of_cut(    i, n, p) {
+function words_of_cut(    i, n) {
     for (i = 2; i <= items; i++) n += index(item[i], "*") ? number_of(substr(item[i], 1, index(item[i], "*") - 1)) : 1
     return n + 0
 }
 
-function event(refusal, word,    what) {
+function event(refusal, word) {
     events++
+    if (!panel_line) panel_line = number_now
     line_of(number_now)
     if (refusal != "DONE") refusals++
     if (item[1] == "write" && items == 3) wrote_line(refusal)

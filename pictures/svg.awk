@@ -29,13 +29,15 @@ function grouped(s,    t) {
 
 function picture(width, height, title, description, style,    i) {
     width = round(width); height = round(height)
-    print "<svg xmlns=\"http://www.w3.org/2000/svg\" viewBox=\"0 0 " width " " height "\" width=\"" width "\" height=\"" height "\" role=\"img\">"
+    print "<svg xmlns=\"http://www.w3.org/2000/svg\" viewBox=\"0 0 " width " " height "\" width=\"" width "\" height=\"" height "\"" \
+        " role=\"img\">"
     print "<title>" xml(title) "</title>"
     print "<desc>" xml(description) "</desc>"
     print "<style>text { font-family: sans-serif; font-size: 12px; fill: #1a202c } .mono { font-family: monospace } .middle { text-anchor: middle }"
     print ".end { text-anchor: end } .bold { font-weight: bold } .large { font-size: 16px } .small { font-size: 10px } .dim { fill: #4a5568 }"
     print ".arrow { stroke: #2d3748; stroke-width: 1.3; fill: none; marker-end: url(#head) } " style "</style>"
-    print "<defs><marker id=\"head\" viewBox=\"0 0 8 8\" refX=\"7\" refY=\"4\" markerWidth=\"7\" markerHeight=\"7\" orient=\"auto-start-reverse\"><path d=\"M0 0L8 4L0 8z\" fill=\"#2d3748\"/></marker></defs>"
+    print "<defs><marker id=\"head\" viewBox=\"0 0 8 8\" refX=\"7\" refY=\"4\" markerWidth=\"7\" markerHeight=\"7\" orient=\"auto\">" \
+        "<path d=\"M0 0L8 4L0 8z\" fill=\"#2d3748\"/></marker></defs>"
     print "<rect width=\"" width "\" height=\"" height "\" fill=\"#ffffff\"/>"
     for (i = 1; i <= drawings; i++) print drawn[i]
     print "</svg>"

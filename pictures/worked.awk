@@ -15,14 +15,15 @@ function refusal_names(    i, file, p) {
     for (i = 1; i <= clauses["number"]; i++) { split(left["number", i], p, " "); refusal_name[right["number", i]] = toupper(p[2]) }
 }
 
-# A cut's debris are written as a script has them; what it exposed is what the stated facts say.
-function cut_line(s, facts, p,    debris, n, i) {
+# A cut's debris are written as a script has them.
+function cut_line(s,    debris, n, i) {
     n = listing(substr(s, 5), debris)
     s = "cut"
     for (i = 1; i <= n; i++) s = s " " debris[i]
     return s
 }
 
+# What a cut exposed is what the stated facts and words say.
 function exposures(n, facts,    i) {
     if (cut_block != "") {
         if (!index(facts, "eraseCut " cut_block " debris")) die("cutFlat states no cut of block " cut_block)
@@ -51,14 +52,15 @@ BEGIN {
     read_parts(); lay_out(part); read_figures(); refusal_names()
     list_files = "crates/plain/specs/Worked.antt crates/plain/specs/Rows.antt"
     read_clauses("crates/plain/specs/Worked.antt", "cutFlat")
-    if (parts_of(right["cutFlat", 1], "", work) != 4 || work[1] != "work") die("cutFlat is not of the form `work EVENTS ADDRESSES (tale ..)`")
-    if (parts_of(substr(work[4], 2, length(work[4]) - 2), "", tale) != 6 || tale[1] != "tale") die("cutFlat states no tale that can be read")
+    if (parts_of(right["cutFlat", 1], "", work) != 4 || work[1] != "work") die("cutFlat is not `work EVENTS ADDRESSES (tale ..)`")
+    if (parts_of(substr(work[4], 2, length(work[4]) - 2), "", tale) != 6 || tale[1] != "tale") die("cutFlat states no tale")
     addresses = listing(work[3], looked)
     if (listing(tale[4], held) != addresses) die("cutFlat states other words than it looks at")
     many = listing(tale[2], refusals)
     if (listing(work[2], happens) != many) die("cutFlat states " many " refusals for another number of events")
     follow_fresh()
     for (n = 1; n <= many; n++) { refusal_number = refusals[n]; play(n, happens[n], refusal_name[refusals[n]], tale[3]) }
-    if (clock != tale[5] || charge() != tale[6]) die("cutFlat states clock " tale[5] " and charge " tale[6] ", its events give " clock " and " charge())
+    if (clock != tale[5] || charge() != tale[6])
+        die("cutFlat states clock " tale[5] " and charge " tale[6] ", its events give " clock " and " charge())
     print "end " tale[5] " " tale[6] " 0 0" > answers
 }
