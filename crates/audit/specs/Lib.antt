@@ -4,4 +4,6 @@ pub mod Performed
 pub mod Promises
 pub mod Called
 pub mod CallPromises
+pub mod Foreseen
+pub mod CallForeseen
 pub mod Replayed
