@@ -5,6 +5,9 @@ ghost use Rattle.face.specs.Face.{standsSound, placeNumber, faceClock, faceChar
 ghost use Rattle.asked.specs.Asked.{faceExposedBlock, faceExposedWord, faceReadsCells};
 use plain::Place;
 
+pub mod addresses;
+pub mod foreseen;
+
 // No block, no word, no clock, no charge.
 const NONE: u64 = 0xffffffffffffffff;
 

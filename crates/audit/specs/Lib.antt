@@ -5,4 +5,6 @@ pub mod Promises
 pub mod Called
 pub mod CallPromises
 pub mod Mapped
+pub mod Foreseen
+pub mod CallForeseen
 pub mod Replayed

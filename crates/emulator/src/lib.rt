@@ -3,7 +3,9 @@
 ghost use mathlib.Core.Path.{_≡_};
 ghost use Rattle.face.specs.Face.{packed, freshRefusal, freshImage, faceRead, faceWrite, faceWait, faceCut};
 
+pub mod addresses;
 pub mod asked_of;
+pub mod foreseen;
 
 #[no_mangle]
 pub extern "C" fn k5l_fresh(words: &mut [u64]) -> u64
