@@ -1,33 +1,33 @@
 /*
  * A small emulator around the flash chip, to start your own from: a bus that lets time pass, a flash driver as a boot loader
- * has it, and a battery that fails in the middle of an erase. It uses the small part: 16,384 words, blocks of 64.
+ * has it, a scheduler that knows when to wake it, and a battery that fails in the middle of an erase. It uses the small part:
+ * 16,384 words, blocks of 64.
  */
 #include "k5l2931cam.h"
+#include "k5l2931cam_print.h"
 
 #include <inttypes.h>
 #include <stdio.h>
-#include <string.h>
 
 /* All there is of the chip: its record and its cells. Save both to a file and the device is saved. */
-static uint64_t record[K5L_RECORD_WORDS];
 static uint16_t cells[K5L_SMALL_WORDS];
+static struct k5l_device chip;
 
 /* A bus cycle takes 100 ns; the chip counts whole microseconds. */
 static const unsigned BUS_CYCLE = 100;
 static unsigned nanoseconds;
 
-static uint64_t clock_now(void) { return k5l_clock(K5L_SMALL, record, K5L_RECORD_WORDS); }
-
+/* A real chip ignores what it does not take; an emulator had better say so. */
 static void log_refusal(const char *what, uint64_t address, uint64_t refusal)
 {
     if (refusal != K5L_DONE)
-        printf("  [chip: %s at %" PRIu64 " refused, number %" PRIu64 "]\n", what, address, refusal);
+        printf("  [chip: %s at %" PRIu64 ": %s]\n", what, address, k5l_refusal_name(refusal));
 }
 
 /* The emulator's time is the chip's time: programs and erases go on in here, and cells change. */
 static void let_pass(uint64_t microseconds)
 {
-    log_refusal("wait", 0, k5l_wait(K5L_SMALL, record, K5L_RECORD_WORDS, cells, K5L_SMALL_WORDS, microseconds));
+    log_refusal("wait", 0, k5l_device_wait(&chip, microseconds));
 }
 
 static void tick(void)
@@ -39,21 +39,37 @@ static void tick(void)
 
 static uint16_t bus_read(uint64_t address)
 {
-    uint64_t answer = k5l_read(K5L_SMALL, record, K5L_RECORD_WORDS, cells, K5L_SMALL_WORDS, address);
+    uint64_t answer = k5l_device_read(&chip, address);
 
     log_refusal("read", address, k5l_refusal_of(answer));
     tick();
     return k5l_word_of(answer);
 }
 
-/* A real chip ignores what it does not take; an emulator had better say so. */
 static void bus_write(uint64_t address, uint16_t word)
 {
-    log_refusal("write", address, k5l_write(K5L_SMALL, record, K5L_RECORD_WORDS, cells, K5L_SMALL_WORDS, address, word));
+    log_refusal("write", address, k5l_device_write(&chip, address, word));
     tick();
 }
 
-/* From here on it is the driver's view: bus cycles and delays, no more. */
+/* The scheduler: a driver that sleeps until the chip is done need not be woken before the chip changes by itself. What changes then
+ * is known, too, for whoever keeps copies of cells. False if nothing ever will. */
+static bool sleep_until_change(void)
+{
+    uint64_t time = k5l_device_until_change(&chip), block = k5l_device_changing_block(&chip);
+
+    if (time == K5L_NONE)
+        return false;
+    printf("  %" PRIu64 " us to the end: asleep for %" PRIu64, k5l_device_until_end(&chip), time);
+    let_pass(time);
+    if (block == K5L_NONE)
+        printf(", and no block has changed\n");
+    else
+        printf(", and block %" PRIu64 " has changed\n", block);
+    return true;
+}
+
+/* From here on it is the driver's view: bus cycles, delays and sleep, no more. */
 enum { DQ7 = 0x80, DQ6 = 0x40 };
 
 static void command(uint16_t third)
@@ -71,18 +87,25 @@ static void start_erase(uint64_t address)
     bus_write(address, 0x30);
 }
 
-/* DQ6 toggles at each read as long as the chip is at work; DQ7 then is 1 in an erased word. */
-static unsigned wait_for_erase(uint64_t address)
+/* DQ6 toggles at each read as long as the chip is at work. Two reads are two statements: C calls them in no fixed order. */
+static bool is_busy(uint64_t address)
+{
+    uint16_t one = bus_read(address);
+    uint16_t other = bus_read(address);
+
+    return (one ^ other) & DQ6;
+}
+
+/* DQ7 is 1 in an erased word. */
+static void wait_for_erase(uint64_t address)
 {
     unsigned polls = 1;
 
-    while ((bus_read(address) ^ bus_read(address)) & DQ6) {
-        let_pass(20000);
+    while (is_busy(address) && sleep_until_change())
         polls++;
-    }
     if (!(bus_read(address) & DQ7))
         printf("  the erase failed\n");
-    return polls;
+    printf("  erased after %u polls, at %" PRIu64 " us\n", polls, k5l_device_clock(&chip));
 }
 
 /* DQ7 is the complement of the data's until the word is programmed. */
@@ -99,12 +122,9 @@ static void program(uint64_t address, uint16_t word)
 
 static void erase_and_program(void)
 {
-    unsigned polls;
-
     printf("erase block 8, at 64:\n");
     start_erase(64);
-    polls = wait_for_erase(64);
-    printf("  erased after %u polls, at %" PRIu64 " us\n", polls, clock_now());
+    wait_for_erase(64);
     printf("program three words:\n");
     program(64, 0x1234);
     program(65, 0xBEEF);
@@ -117,23 +137,22 @@ static void suspend_and_resume(void)
     start_erase(128);
     let_pass(100000);
     bus_write(128, 0xB0);
-    printf("  block 8 of the same bank reads %04X %04X %04X\n", bus_read(64), bus_read(65), bus_read(66));
-    printf("  the suspended block reads %04X: its DQ2 toggles, its DQ6 does not\n", bus_read(128));
+    printf("  word 64, of block 8 in the same bank, is %04X\n", bus_read(64));
+    printf("  the suspended block reads %04X", bus_read(128));
+    printf(", then %04X: its DQ2 toggles, its DQ6 does not\n", bus_read(128));
     printf("program inside the suspension:\n");
     program(67, 0x5678);
     printf("resume:\n");
     bus_write(128, 0x30);
     wait_for_erase(128);
-    printf("  erased at %" PRIu64 " us\n", clock_now());
 }
 
-/* What half erased cells hold nobody knows: the emulator makes it up, as many words as a cut can need. */
+/* What half erased cells hold nobody knows: the emulator makes it up. With as many words as a cut can need it is never refused;
+ * a refused cut would be no cut at all. */
 static void fail_the_battery(void)
 {
-    enum { DEBRIS_WORDS = 64 + 1 }; /* a block's, and a word for a program */
-    uint16_t debris[DEBRIS_WORDS];
-    uint64_t block = k5l_exposed_block(K5L_SMALL, record, K5L_RECORD_WORDS);
-    uint64_t word = k5l_exposed_word(K5L_SMALL, record, K5L_RECORD_WORDS);
+    uint16_t debris[K5L_SMALL_DEBRIS];
+    uint64_t block = k5l_device_exposed_block(&chip), word = k5l_device_exposed_word(&chip);
 
     if (block != K5L_NONE) {
         uint64_t first = k5l_first_word(K5L_SMALL, block), last = first + k5l_block_words(K5L_SMALL, block) - 1;
@@ -142,17 +161,16 @@ static void fail_the_battery(void)
     }
     if (word != K5L_NONE)
         printf("  exposed: word %" PRIu64 ", %04X before\n", word, cells[word]);
-    for (unsigned i = 0; i < DEBRIS_WORDS; i++)
+    for (unsigned i = 0; i < K5L_SMALL_DEBRIS; i++)
         debris[i] = (uint16_t)(0x9E37 * (i + 1));
-    log_refusal("cut", 0, k5l_cut(K5L_SMALL, record, K5L_RECORD_WORDS, cells, K5L_SMALL_WORDS, debris, DEBRIS_WORDS));
+    log_refusal("cut", 0, k5l_device_cut(&chip, debris, K5L_SMALL_DEBRIS));
     nanoseconds = 0;
     printf("  after the cut: word 192 is %04X, word 68 is %04X; all else is as it was\n", cells[192], cells[68]);
 }
 
 int main(void)
 {
-    k5l_fresh(record, K5L_RECORD_WORDS);
-    memset(cells, 0, sizeof cells);
+    log_refusal("fresh", 0, k5l_device_fresh(&chip, K5L_SMALL, cells, K5L_SMALL_WORDS));
     erase_and_program();
     suspend_and_resume();
     printf("erase block 10, at 192, suspend it, start a program at 68, and lose power:\n");
@@ -162,8 +180,8 @@ int main(void)
     command(0xA0);
     bus_write(68, 0x0F0F);
     let_pass(3);
+    k5l_print_record(stdout, chip.part, chip.record, K5L_RECORD_WORDS);
     fail_the_battery();
-    printf("the device has run %" PRIu64 " us and drawn %" PRIu64 " pC\n", clock_now(),
-           k5l_charge(K5L_SMALL, record, K5L_RECORD_WORDS));
+    printf("the device has run %" PRIu64 " us and drawn %" PRIu64 " pC\n", k5l_device_clock(&chip), k5l_device_charge(&chip));
     return 0;
 }

@@ -8,6 +8,10 @@
  * is lent them by pointer and length, and keeps nothing. Any numbers, lengths and contents are answered: there is nothing to
  * check before a call. Only what is lent must be there: a pointer leads to as many elements as its length says, and record,
  * cells and debris do not overlap. Time passes in k5l_wait alone.
+ *
+ * The library is for x86-64. `./library` proves and builds it, in some minutes the first time, and says where it is; `./library
+ * install PREFIX` puts header, archive and a pkg-config file there. As nothing is kept, different devices may run on different
+ * threads.
  */
 #ifndef K5L2931CAM_H
 #define K5L2931CAM_H
@@ -15,6 +19,19 @@
 #include <stdbool.h>
 #include <stddef.h>
 #include <stdint.h>
+
+#define K5L_VERSION "1.0.0"
+#define K5L_VERSION_MAJOR 1
+#define K5L_VERSION_MINOR 0
+#define K5L_VERSION_PATCH 0
+
+/* On calls whose answer is a refusal that no program should drop. A read is not among them: a bus cycle whose word nobody wants
+ * is a bus cycle all the same. */
+#ifdef __GNUC__
+#define K5L_MUST_USE __attribute__((warn_unused_result))
+#else
+#define K5L_MUST_USE
+#endif
 
 #ifdef __cplusplus
 extern "C" {
@@ -44,16 +61,18 @@ enum {
     K5L_FULL = 1
 };
 
-/* How many words and blocks they have. */
+/* How many words and blocks they have, and the most words of debris that a cut can need: with so many it is never K5L_DEBRIS. */
 enum {
     K5L_SMALL_WORDS = 16384,
     K5L_FULL_WORDS = 8388608,
-    K5L_BLOCKS = 270
+    K5L_BLOCKS = 270,
+    K5L_SMALL_DEBRIS = 65,
+    K5L_FULL_DEBRIS = 32769
 };
 
 /*
  * The record, layout 1. It may be stored and brought back: its words mean the same in every later version of this library
- * that knows layout 1. A word that is not in use is 0.
+ * that knows layout 1. A word that is not in use is 0. (k5l2931cam_print.h prints it in words.)
  *
  *   0      the layout's number, K5L_LAYOUT
  *   1      clock, in microseconds
@@ -83,12 +102,12 @@ enum {
     K5L_RECORD_WORDS = 29
 };
 
-/* No block, no word, no clock, no charge. */
-static const uint64_t K5L_NONE = UINT64_MAX;
+/* No block, no word, no clock, no charge. Nor a bank, nor a time to come. */
+#define K5L_NONE UINT64_MAX
 
 /* Makes a fresh device: clock 0, charge 0, no operation, no protection. K5L_DONE; or K5L_STATE for another number of words,
  * and nothing is touched. The cells are yours to fill. */
-uint64_t k5l_fresh(uint64_t *record, size_t words);
+uint64_t k5l_fresh(uint64_t *record, size_t words) K5L_MUST_USE;
 
 /* Does the record stand for a sound state of the part? Events on others are K5L_STATE. */
 bool k5l_sound(uint64_t part, const uint64_t *record, size_t words);
@@ -99,23 +118,41 @@ uint64_t k5l_read(uint64_t part, uint64_t *record, size_t words, const uint16_t 
 
 /* A bus write: the refusal. It changes no cell: cells change as operations finish, in k5l_wait. */
 uint64_t k5l_write(uint64_t part, uint64_t *record, size_t words, const uint16_t *cells, size_t length, uint64_t address,
-                   uint16_t word);
+                   uint16_t word) K5L_MUST_USE;
 
 /* Lets time pass: the refusal. What finishes within it changes its cells. */
-uint64_t k5l_wait(uint64_t part, uint64_t *record, size_t words, uint16_t *cells, size_t length, uint64_t microseconds);
+uint64_t k5l_wait(uint64_t part, uint64_t *record, size_t words, uint16_t *cells, size_t length,
+                  uint64_t microseconds) K5L_MUST_USE;
 
 /* Loss of power, or RESET# low: the refusal. The block in hand of a begun erase takes the first words of the debris, as many
  * as it has; the word of a begun program becomes old AND (data OR debris), with the debris word after those. More debris than
  * that is ignored; k5l_exposed_block and k5l_exposed_word tell before the cut what it will change. */
 uint64_t k5l_cut(uint64_t part, uint64_t *record, size_t words, uint16_t *cells, size_t length, const uint16_t *debris,
-                 size_t debris_length);
+                 size_t debris_length) K5L_MUST_USE;
 
 /* The block and the word that a cut would change if it came now; K5L_NONE for none, and for a record that is not sound. */
 uint64_t k5l_exposed_block(uint64_t part, const uint64_t *record, size_t words);
 uint64_t k5l_exposed_word(uint64_t part, const uint64_t *record, size_t words);
 
-/* Do reads in the bank give the cells and change nothing? Until the next write, wait or cut you may then read them yourself.
- * Of a number that is no bank's: no. */
+/* How many words of debris a cut would need if it came now; K5L_NONE for a record that is not sound. */
+uint64_t k5l_debris_needed(uint64_t part, const uint64_t *record, size_t words);
+
+/* What comes if nobody writes. Microseconds until nothing runs any more: 0 where nothing does (what is suspended does not).
+ * K5L_NONE for a record that is not sound. The clock's limit is not looked at: a wait past it is refused all the same. */
+uint64_t k5l_until_end(uint64_t part, const uint64_t *record, size_t words);
+
+/* Microseconds until the device next changes by itself: the erase window ends, a block or a word is finished. Until then no cell
+ * changes, and reads give what they give now but for their toggles. K5L_NONE where nothing runs, and for a record that is not
+ * sound. */
+uint64_t k5l_until_change(uint64_t part, const uint64_t *record, size_t words);
+
+/* The block, or the word, that is finished then; K5L_NONE where it is none: at the window's end, and where nothing comes. */
+uint64_t k5l_changing_block(uint64_t part, const uint64_t *record, size_t words);
+uint64_t k5l_changing_word(uint64_t part, const uint64_t *record, size_t words);
+
+/* Do reads in the bank give the cells and change nothing? Until the next write you may then read them yourself, whatever reads,
+ * waits and cuts come between. Of a number that is no bank's: no. A bank that does not may come to do so in a wait or a cut, and
+ * its cells may then be others (k5l_changing_.. and k5l_exposed_.. foretell which). */
 bool k5l_reads_cells(uint64_t part, const uint64_t *record, size_t words, uint64_t bank);
 
 /* Microseconds run and picocoulombs drawn; K5L_NONE for a record that is not sound. */
@@ -127,8 +164,12 @@ uint64_t k5l_charge(uint64_t part, const uint64_t *record, size_t words);
 uint64_t k5l_first_word(uint64_t part, uint64_t block);
 uint64_t k5l_block_words(uint64_t part, uint64_t block);
 
-/* Refusal, block and bank of an address, for each part. With K5L_ADDRESS block and bank are told as 0, which are also real
- * ones: ask for the refusal first. */
+/* Block and bank of an address; K5L_NONE if it is not below the word count, or there is no such part. */
+uint64_t k5l_block_of(uint64_t part, uint64_t address);
+uint64_t k5l_bank_of(uint64_t part, uint64_t address);
+
+/* The same for one part each, for a boot loader that links nothing else: refusal, block and bank. With K5L_ADDRESS block and
+ * bank are told as 0, which are also real ones: ask for the refusal first. */
 uint64_t k5l_small_refusal(uint64_t address);
 uint64_t k5l_small_block(uint64_t address);
 uint64_t k5l_small_bank(uint64_t address);
@@ -139,6 +180,112 @@ uint64_t k5l_full_bank(uint64_t address);
 /* What k5l_read answered. */
 static inline uint64_t k5l_refusal_of(uint64_t answer) { return answer >> 16; }
 static inline uint16_t k5l_word_of(uint64_t answer) { return (uint16_t)answer; }
+
+/* A refusal's name, for a log; "?" for a number that is none. */
+static inline const char *k5l_refusal_name(uint64_t refusal)
+{
+    switch (refusal) {
+    case K5L_DONE: return "DONE";
+    case K5L_STATE: return "STATE";
+    case K5L_CELLS: return "CELLS";
+    case K5L_ADDRESS: return "ADDRESS";
+    case K5L_CLOCK: return "CLOCK";
+    case K5L_DEBRIS: return "DEBRIS";
+    case K5L_BUSY: return "BUSY";
+    case K5L_SEQUENCE: return "SEQUENCE";
+    case K5L_BANK: return "BANK";
+    case K5L_PROTECTED: return "PROTECTED";
+    case K5L_SUSPENDED: return "SUSPENDED";
+    case K5L_LOCKED: return "LOCKED";
+    default: return "?";
+    }
+}
+
+/*
+ * For those who like it: the device in one piece, and each call on it by its own name, with no pointer or length to mix up.
+ */
+struct k5l_device {
+    uint64_t part;
+    uint64_t record[K5L_RECORD_WORDS];
+    uint16_t *cells;
+    size_t length;
+};
+
+static inline uint64_t k5l_device_read(struct k5l_device *d, uint64_t address)
+{
+    return k5l_read(d->part, d->record, K5L_RECORD_WORDS, d->cells, d->length, address);
+}
+
+static inline K5L_MUST_USE uint64_t k5l_device_write(struct k5l_device *d, uint64_t address, uint16_t word)
+{
+    return k5l_write(d->part, d->record, K5L_RECORD_WORDS, d->cells, d->length, address, word);
+}
+
+static inline K5L_MUST_USE uint64_t k5l_device_wait(struct k5l_device *d, uint64_t microseconds)
+{
+    return k5l_wait(d->part, d->record, K5L_RECORD_WORDS, d->cells, d->length, microseconds);
+}
+
+static inline K5L_MUST_USE uint64_t k5l_device_cut(struct k5l_device *d, const uint16_t *debris, size_t debris_length)
+{
+    return k5l_cut(d->part, d->record, K5L_RECORD_WORDS, d->cells, d->length, debris, debris_length);
+}
+
+/* A fresh device over these cells; answered as a wait of nothing is: K5L_STATE for no such part, K5L_CELLS for a wrong length. */
+static inline K5L_MUST_USE uint64_t k5l_device_fresh(struct k5l_device *d, uint64_t part, uint16_t *cells, size_t length)
+{
+    uint64_t refusal = k5l_fresh(d->record, K5L_RECORD_WORDS);
+
+    d->part = part;
+    d->cells = cells;
+    d->length = length;
+    return refusal == K5L_DONE ? k5l_device_wait(d, 0) : refusal;
+}
+
+static inline bool k5l_device_sound(const struct k5l_device *d)
+{
+    return k5l_sound(d->part, d->record, K5L_RECORD_WORDS);
+}
+static inline uint64_t k5l_device_clock(const struct k5l_device *d)
+{
+    return k5l_clock(d->part, d->record, K5L_RECORD_WORDS);
+}
+static inline uint64_t k5l_device_charge(const struct k5l_device *d)
+{
+    return k5l_charge(d->part, d->record, K5L_RECORD_WORDS);
+}
+static inline uint64_t k5l_device_exposed_block(const struct k5l_device *d)
+{
+    return k5l_exposed_block(d->part, d->record, K5L_RECORD_WORDS);
+}
+static inline uint64_t k5l_device_exposed_word(const struct k5l_device *d)
+{
+    return k5l_exposed_word(d->part, d->record, K5L_RECORD_WORDS);
+}
+static inline uint64_t k5l_device_debris_needed(const struct k5l_device *d)
+{
+    return k5l_debris_needed(d->part, d->record, K5L_RECORD_WORDS);
+}
+static inline uint64_t k5l_device_until_end(const struct k5l_device *d)
+{
+    return k5l_until_end(d->part, d->record, K5L_RECORD_WORDS);
+}
+static inline uint64_t k5l_device_until_change(const struct k5l_device *d)
+{
+    return k5l_until_change(d->part, d->record, K5L_RECORD_WORDS);
+}
+static inline uint64_t k5l_device_changing_block(const struct k5l_device *d)
+{
+    return k5l_changing_block(d->part, d->record, K5L_RECORD_WORDS);
+}
+static inline uint64_t k5l_device_changing_word(const struct k5l_device *d)
+{
+    return k5l_changing_word(d->part, d->record, K5L_RECORD_WORDS);
+}
+static inline bool k5l_device_reads_cells(const struct k5l_device *d, uint64_t bank)
+{
+    return k5l_reads_cells(d->part, d->record, K5L_RECORD_WORDS, bank);
+}
 
 #ifdef __cplusplus
 }

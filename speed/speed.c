@@ -1,7 +1,7 @@
 /*
- * What an event costs, through the header's functions or on the plain model of tests/c:
+ * What an event costs, and a question, through the header's functions or on the plain model of tests/c:
  *
- *     speed list                             the kinds of event, each with a number of events that takes some time
+ *     speed list                             the kinds of them, each with a number of events that takes some time
  *     speed KIND library|model N RUNS        nanoseconds for an event: the best of RUNS runs of N events each
  *     speed KIND library|model N             one run of N events, for who counts instructions
  *
@@ -30,7 +30,7 @@ static struct model_record record, record_before;
 /* The answers go here, so that no call is left out. */
 static volatile uint64_t answer;
 
-/* The events of both sides, for the preparations and for the loops. */
+/* The events of both sides, for the preparations and for the loops, and the questions. */
 struct side {
     const char *name;
     void (*restore)(void);
@@ -38,6 +38,12 @@ struct side {
     void (*write)(uint64_t address, uint16_t word);
     void (*wait)(uint64_t microseconds);
     void (*cut)(size_t debris_length);
+    void (*sound)(void);
+    void (*reads_cells)(uint64_t bank);
+    void (*exposed_block)(void);
+    void (*exposed_word)(void);
+    void (*clock)(void);
+    void (*charge)(void);
 };
 
 static void library_restore(void) { memcpy(image, image_before, sizeof image); }
@@ -57,6 +63,12 @@ static void library_cut(size_t debris_length)
 {
     answer = k5l_cut(K5L_FULL, image, K5L_RECORD_WORDS, cells, K5L_FULL_WORDS, debris, debris_length);
 }
+static void library_sound(void) { answer = k5l_sound(K5L_FULL, image, K5L_RECORD_WORDS); }
+static void library_reads_cells(uint64_t bank) { answer = k5l_reads_cells(K5L_FULL, image, K5L_RECORD_WORDS, bank); }
+static void library_exposed_block(void) { answer = k5l_exposed_block(K5L_FULL, image, K5L_RECORD_WORDS); }
+static void library_exposed_word(void) { answer = k5l_exposed_word(K5L_FULL, image, K5L_RECORD_WORDS); }
+static void library_clock(void) { answer = k5l_clock(K5L_FULL, image, K5L_RECORD_WORDS); }
+static void library_charge(void) { answer = k5l_charge(K5L_FULL, image, K5L_RECORD_WORDS); }
 
 static void model_side_restore(void) { memcpy(&record, &record_before, sizeof record); }
 static void model_side_read(uint64_t address)
@@ -77,26 +89,37 @@ static void model_side_cut(size_t debris_length)
 {
     answer = model_cut(MODEL_FULL, &record, cells, K5L_FULL_WORDS, debris, debris_length);
 }
+static void model_side_sound(void) { answer = model_sound(MODEL_FULL, &record); }
+static void model_side_reads_cells(uint64_t bank) { answer = model_reads_cells(MODEL_FULL, &record, bank); }
+static void model_side_exposed_block(void) { answer = model_exposed_block(MODEL_FULL, &record); }
+static void model_side_exposed_word(void) { answer = model_exposed_word(MODEL_FULL, &record); }
+static void model_side_clock(void) { answer = model_sound(MODEL_FULL, &record) ? record.clock : MODEL_NONE; }
+static void model_side_charge(void) { answer = model_sound(MODEL_FULL, &record) ? record.charge : MODEL_NONE; }
 
 static const struct side sides[] = {
-    { "library", library_restore, library_read, library_write, library_wait, library_cut },
-    { "model", model_side_restore, model_side_read, model_side_write, model_side_wait, model_side_cut },
+    { "library", library_restore, library_read, library_write, library_wait, library_cut, library_sound, library_reads_cells,
+      library_exposed_block, library_exposed_word, library_clock, library_charge },
+    { "model", model_side_restore, model_side_read, model_side_write, model_side_wait, model_side_cut, model_side_sound,
+      model_side_reads_cells, model_side_exposed_block, model_side_exposed_word, model_side_clock, model_side_charge },
 };
 
 /* States that events are measured in. */
 static void prepare_idle(const struct side *side) { (void)side; }
 
-static void write_command(const struct side *side, uint16_t third)
-{
-    side->write(0x555, 0xAA);
-    side->write(0x2AA, 0x55);
-    side->write(0x555, third);
-}
+static void write_1(const struct side *side) { side->write(0x555, 0xAA); }
+static void write_2(const struct side *side) { side->write(0x2AA, 0x55); }
+static void write_3(const struct side *side) { side->write(0x555, 0xA0); }
+static void write_4(const struct side *side) { side->write(OTHER_BANK_AT, 0x1234); }
+
+/* A program half entered: so many of its writes taken. */
+static void prepare_1(const struct side *side) { write_1(side); }
+static void prepare_2(const struct side *side) { write_1(side); write_2(side); }
+static void prepare_3(const struct side *side) { prepare_2(side); write_3(side); }
 
 static void write_program(const struct side *side)
 {
-    write_command(side, 0xA0);
-    side->write(OTHER_BANK_AT, 0x1234);
+    prepare_3(side);
+    write_4(side);
 }
 
 static void prepare_program(const struct side *side)
@@ -108,9 +131,9 @@ static void prepare_program(const struct side *side)
 /* So many blocks of bank 1B listed, and the erase of the first begun. */
 static void prepare_erase_of(const struct side *side, unsigned blocks)
 {
-    write_command(side, 0x80);
-    side->write(0x555, 0xAA);
-    side->write(0x2AA, 0x55);
+    prepare_2(side);
+    side->write(0x555, 0x80);
+    prepare_2(side);
     for (uint64_t block = 0; block < blocks; block++)
         side->write(BLOCK_AT + block * BLOCK_WORDS, 0x30);
     side->wait(50 + 1000);
@@ -125,7 +148,7 @@ static void prepare_last_microsecond(const struct side *side)
     side->wait(700000 - 1000 - 1);
 }
 
-/* The events. */
+/* The events, besides the writes above. */
 static void nothing(const struct side *side) { (void)side; }
 static void read_other_bank(const struct side *side) { side->read(OTHER_BANK_AT); }
 static void read_bank(const struct side *side) { side->read(BLOCK_AT); }
@@ -137,6 +160,14 @@ static void wait_long(const struct side *side) { side->wait(10000000000000); }
 static void fill_block(const struct side *side) { (void)side; memset(cells + BLOCK_AT, 0xFF, BLOCK_WORDS * sizeof *cells); }
 static void cut_word(const struct side *side) { side->cut(1); }
 static void cut_block(const struct side *side) { side->cut(BLOCK_WORDS); }
+
+/* The questions. */
+static void ask_sound(const struct side *side) { side->sound(); }
+static void ask_reads_cells(const struct side *side) { side->reads_cells(0); }
+static void ask_exposed_block(const struct side *side) { side->exposed_block(); }
+static void ask_exposed_word(const struct side *side) { side->exposed_word(); }
+static void ask_clock(const struct side *side) { side->clock(); }
+static void ask_charge(const struct side *side) { side->charge(); }
 
 /* `answer` is what the first event must be answered: what is measured is what is meant. */
 static const struct kind {
@@ -150,12 +181,17 @@ static const struct kind {
     { "nothing", 300000, K5L_DONE, false, prepare_idle, nothing },
     { "nothing-record-restored", 300000, K5L_DONE, true, prepare_idle, nothing },
     { "array-read-idle", 300000, K5L_DONE, false, prepare_idle, read_other_bank },
+    { "array-read-half-entered", 300000, K5L_DONE, false, prepare_1, read_other_bank },
     { "array-read-other-bank-erases", 300000, K5L_DONE, false, prepare_erase, read_other_bank },
     { "status-read-96-blocks", 300000, 0x4C, false, prepare_erase, read_bank },
     { "write-refused-sequence", 300000, K5L_SEQUENCE, false, prepare_idle, write_out_of_turn },
     { "write-refused-busy", 300000, K5L_BUSY, false, prepare_erase, write_reset },
     { "b0-in-program-busy-restored", 300000, K5L_BUSY, true, prepare_program, write_suspend },
     { "b0-in-erase-96-blocks-restored", 300000, K5L_DONE, true, prepare_erase, write_suspend },
+    { "program-write-1-restored", 300000, K5L_DONE, true, prepare_idle, write_1 },
+    { "program-write-2-restored", 300000, K5L_DONE, true, prepare_1, write_2 },
+    { "program-write-3-restored", 300000, K5L_DONE, true, prepare_2, write_3 },
+    { "program-write-4-restored", 300000, K5L_DONE, true, prepare_3, write_4 },
     { "program-four-writes-restored", 100000, K5L_DONE, true, prepare_idle, write_program },
     { "wait-1us-idle-restored", 300000, K5L_DONE, true, prepare_idle, wait_1 },
     { "wait-1e13us-idle-restored", 300000, K5L_DONE, true, prepare_idle, wait_long },
@@ -164,6 +200,18 @@ static const struct kind {
     { "memset-64KiB", 2000, K5L_DONE, false, prepare_idle, fill_block },
     { "cut-begun-program-restored", 300000, K5L_DONE, true, prepare_program, cut_word },
     { "cut-begun-erase-64KiB-restored", 2000, K5L_DONE, true, prepare_short_erase, cut_block },
+    { "ask-sound-idle", 300000, true, false, prepare_idle, ask_sound },
+    { "ask-reads-cells-idle", 300000, true, false, prepare_idle, ask_reads_cells },
+    { "ask-exposed-block-idle", 300000, UINT64_MAX, false, prepare_idle, ask_exposed_block },
+    { "ask-exposed-word-idle", 300000, UINT64_MAX, false, prepare_idle, ask_exposed_word },
+    { "ask-clock-idle", 300000, 0, false, prepare_idle, ask_clock },
+    { "ask-charge-idle", 300000, 0, false, prepare_idle, ask_charge },
+    { "ask-sound-96-blocks", 300000, true, false, prepare_erase, ask_sound },
+    { "ask-reads-cells-96-blocks", 300000, true, false, prepare_erase, ask_reads_cells },
+    { "ask-exposed-block-96-blocks", 300000, 39, false, prepare_erase, ask_exposed_block },
+    { "ask-exposed-word-96-blocks", 300000, UINT64_MAX, false, prepare_erase, ask_exposed_word },
+    { "ask-clock-96-blocks", 300000, 50 + 1000, false, prepare_erase, ask_clock },
+    { "ask-charge-96-blocks", 300000, 50 * 15 + 1000 * 17000, false, prepare_erase, ask_charge },
 };
 enum { KINDS = sizeof kinds / sizeof *kinds };
 

@@ -165,9 +165,7 @@ static uint64_t some_wait(const struct pair *pair)
 static size_t some_debris(const struct pair *pair)
 {
     struct model_record record = now(pair);
-    uint64_t block = model_exposed_block(pair->part, &record);
-    size_t needed = (block != MODEL_NONE ? model_block_words(pair->part, block) : 0)
-        + (model_exposed_word(pair->part, &record) != MODEL_NONE);
+    size_t needed = model_debris_needed(pair->part, &record);
 
     return once_in(3) && needed > 0 ? (once_in(2) ? needed - 1 : below(needed)) : needed + below(2);
 }

@@ -89,6 +89,11 @@ uint64_t clock_now(void) { return k5l_clock(part, record, K5L_RECORD_WORDS); }
 uint64_t charge_now(void) { return k5l_charge(part, record, K5L_RECORD_WORDS); }
 uint64_t exposed_block(void) { return k5l_exposed_block(part, record, K5L_RECORD_WORDS); }
 uint64_t exposed_word(void) { return k5l_exposed_word(part, record, K5L_RECORD_WORDS); }
+uint64_t debris_needed(void) { return k5l_debris_needed(part, record, K5L_RECORD_WORDS); }
+uint64_t until_end(void) { return k5l_until_end(part, record, K5L_RECORD_WORDS); }
+uint64_t until_change(void) { return k5l_until_change(part, record, K5L_RECORD_WORDS); }
+uint64_t changing_block(void) { return k5l_changing_block(part, record, K5L_RECORD_WORDS); }
+uint64_t changing_word(void) { return k5l_changing_word(part, record, K5L_RECORD_WORDS); }
 bool reads_cells(uint64_t bank) { return k5l_reads_cells(part, record, K5L_RECORD_WORDS, bank); }
 
 void save(void)

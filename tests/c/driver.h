@@ -40,6 +40,11 @@ uint64_t clock_now(void);
 uint64_t charge_now(void);
 uint64_t exposed_block(void);
 uint64_t exposed_word(void);
+uint64_t debris_needed(void);
+uint64_t until_end(void);
+uint64_t until_change(void);
+uint64_t changing_block(void);
+uint64_t changing_word(void);
 bool reads_cells(uint64_t bank);
 
 /* Has anything changed in record or cells since the last save? */

@@ -1,6 +1,7 @@
 /*
- * Every function of the header, with what document 01 says of it written out by hand: each refusal with what it leaves
- * behind, the readings, windows, suspensions and cuts, and every block's first and last word on both parts.
+ * The functions of the header, with what document 01 says of each written out by hand: each refusal with what it leaves behind,
+ * the readings, windows, suspensions and cuts, and every block's first and last word on both parts. (What they foretell is in
+ * foreseen.c.)
  */
 #include "driver.h"
 

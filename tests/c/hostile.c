@@ -241,6 +241,11 @@ static void nothing_lent(struct pair *pair)
     SAME(k5l_fresh(none, 0), K5L_STATE);
     HOLDS(!k5l_sound(K5L_SMALL, none, 0));
     SAME(k5l_clock(K5L_SMALL, none, 0), K5L_NONE);
+    SAME(k5l_until_end(K5L_SMALL, none, 0), K5L_NONE);
+    SAME(k5l_until_change(K5L_SMALL, none, 0), K5L_NONE);
+    SAME(k5l_changing_block(K5L_SMALL, none, 0), K5L_NONE);
+    SAME(k5l_changing_word(K5L_SMALL, none, 0), K5L_NONE);
+    SAME(k5l_debris_needed(K5L_SMALL, none, 0), K5L_NONE);
     SAME(k5l_read(K5L_SMALL, none, 0, pair->cells, pair->length, 0), (uint64_t)K5L_STATE << 16);
     SAME(k5l_wait(K5L_SMALL, none, 0, NULL, 0, 1), K5L_STATE);
     SAME(k5l_fresh(pair->image, K5L_RECORD_WORDS), K5L_DONE);

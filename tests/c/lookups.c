@@ -1,6 +1,6 @@
 /*
- * The lookups of both parts, called as an emulator calls them: every block's first and last word, the addresses of bench
- * row a, the edges of the banks, the word count and the largest number. What is expected is worked out here from the
+ * The lookups of both parts, by each part's own functions and by its number: every block's first and last word, the addresses
+ * of bench row a, the edges of the banks, the word count and the largest number. What is expected is worked out here from the
  * paper's table of six runs (document 01, "The die and its small twin"), not from the code.
  */
 #include "k5l2931cam.h"
@@ -22,16 +22,30 @@ static const struct run table[6] = {
 
 struct part {
     const char *name;
-    uint64_t divisor, words;
+    uint64_t number, divisor, words;
     uint64_t (*refusal)(uint64_t), (*block)(uint64_t), (*bank)(uint64_t);
 };
 
 static unsigned long asked, wrong;
 
+/* By the part's number there is no refusal: K5L_NONE stands for it. */
+static void expect_by_number(uint64_t part, uint64_t address, uint64_t block, uint64_t bank)
+{
+    uint64_t b = k5l_block_of(part, address), k = k5l_bank_of(part, address);
+
+    asked++;
+    if (b == block && k == bank)
+        return;
+    wrong++;
+    printf("part %" PRIu64 ": address %" PRIu64 ": block %" PRIu64 ", bank %" PRIu64 "; expected %" PRIu64 ", %" PRIu64 "\n",
+           part, address, b, k, block, bank);
+}
+
 static void expect(const struct part *p, uint64_t address, uint64_t refusal, uint64_t block, uint64_t bank)
 {
     uint64_t r = p->refusal(address), b = p->block(address), k = p->bank(address);
 
+    expect_by_number(p->number, address, refusal == K5L_DONE ? block : K5L_NONE, refusal == K5L_DONE ? bank : K5L_NONE);
     asked++;
     if (r == refusal && b == block && k == bank)
         return;
@@ -91,16 +105,28 @@ static void row_a(const struct part *p)
     expect(p, 16384, K5L_ADDRESS, 0, 0);
 }
 
+/* There are two parts. */
+static void no_such_part(void)
+{
+    static const uint64_t none[] = { 2, 3, 4294967296, 4294967297, (uint64_t)1 << 63, UINT64_MAX };
+    static const uint64_t at[] = { 0, 8, 16383, 16384, UINT64_MAX };
+
+    for (unsigned i = 0; i < sizeof none / sizeof *none; i++)
+        for (unsigned k = 0; k < sizeof at / sizeof *at; k++)
+            expect_by_number(none[i], at[k], K5L_NONE, K5L_NONE);
+}
+
 int main(void)
 {
-    const struct part small = { "small", 512, K5L_SMALL_WORDS, k5l_small_refusal, k5l_small_block, k5l_small_bank };
-    const struct part full = { "full", 1, K5L_FULL_WORDS, k5l_full_refusal, k5l_full_block, k5l_full_bank };
+    const struct part small = { "small", K5L_SMALL, 512, K5L_SMALL_WORDS, k5l_small_refusal, k5l_small_block, k5l_small_bank };
+    const struct part full = { "full", K5L_FULL, 1, K5L_FULL_WORDS, k5l_full_refusal, k5l_full_block, k5l_full_bank };
 
     blocks(&small);
     outside(&small);
     row_a(&small);
     blocks(&full);
     outside(&full);
+    no_such_part();
     printf("lookups: %lu addresses asked, %lu wrong\n", asked, wrong);
     return wrong != 0;
 }

@@ -103,6 +103,18 @@ uint64_t model_exposed_word(uint64_t part, const struct model_record *record);
 /* Is every read in the bank an array read? Of a number that is no bank's: no. */
 bool model_reads_cells(uint64_t part, const struct model_record *record, uint64_t bank);
 
+/* What comes if nobody writes: the microseconds until nothing runs, and until the next change; the block or the word that is
+ * finished then. And the words of debris that a cut would need now. MODEL_NONE for none, and for a record that is not sound. */
+uint64_t model_until_end(uint64_t part, const struct model_record *record);
+uint64_t model_until_change(uint64_t part, const struct model_record *record);
+uint64_t model_changing_block(uint64_t part, const struct model_record *record);
+uint64_t model_changing_word(uint64_t part, const struct model_record *record);
+uint64_t model_debris_needed(uint64_t part, const struct model_record *record);
+
+/* Block and bank of an address, or MODEL_NONE. */
+uint64_t model_block_of(uint64_t part, uint64_t address);
+uint64_t model_bank_of(uint64_t part, uint64_t address);
+
 /* Document 01, The die and its small twin: the small part divides every size and first word by 512. */
 static inline unsigned model_scale(uint64_t part) { return part == MODEL_FULL ? 0 : 9; }
 static inline uint64_t model_words(uint64_t part) { return (uint64_t)8388608 >> model_scale(part); }

@@ -113,6 +113,14 @@ static bool may_have_changed_cells(const struct event *event, const uint64_t *be
     return event->kind >= EVENT_WAIT && (before[5] != after[5] || before[11] != after[11]);
 }
 
+/* Any number may be asked as an address. */
+static bool same_lookups(uint64_t part, uint64_t number)
+{
+    bool same = SAME(k5l_block_of(part, number), model_block_of(part, number));
+
+    return same & SAME(k5l_bank_of(part, number), model_bank_of(part, number));
+}
+
 uint64_t pair_event(struct pair *pair, const struct event *event)
 {
     uint64_t before[PAIR_IMAGE_WORDS], expected[PAIR_IMAGE_WORDS], answer = (uint64_t)K5L_STATE << 16;
@@ -127,6 +135,7 @@ uint64_t pair_event(struct pair *pair, const struct event *event)
     }
     same = SAME(of_library(pair, event), answer);
     same &= same_images(pair->image, expected);
+    same &= same_lookups(pair->part, event->number);
     if ((event->kind >= EVENT_WAIT && pair->room < K5L_FULL_WORDS) || may_have_changed_cells(event, before, expected))
         same &= pair_cells(pair);
     if (!same) {
@@ -147,6 +156,11 @@ void pair_questions(const struct pair *p)
     same &= SAME(k5l_charge(p->part, p->image, p->words), sound ? r.charge : K5L_NONE);
     same &= SAME(k5l_exposed_block(p->part, p->image, p->words), sound ? model_exposed_block(p->part, &r) : K5L_NONE);
     same &= SAME(k5l_exposed_word(p->part, p->image, p->words), sound ? model_exposed_word(p->part, &r) : K5L_NONE);
+    same &= SAME(k5l_debris_needed(p->part, p->image, p->words), sound ? model_debris_needed(p->part, &r) : K5L_NONE);
+    same &= SAME(k5l_until_end(p->part, p->image, p->words), sound ? model_until_end(p->part, &r) : K5L_NONE);
+    same &= SAME(k5l_until_change(p->part, p->image, p->words), sound ? model_until_change(p->part, &r) : K5L_NONE);
+    same &= SAME(k5l_changing_block(p->part, p->image, p->words), sound ? model_changing_block(p->part, &r) : K5L_NONE);
+    same &= SAME(k5l_changing_word(p->part, p->image, p->words), sound ? model_changing_word(p->part, &r) : K5L_NONE);
     for (uint64_t bank = 0; bank <= MODEL_BANKS; bank++)
         same &= SAME(k5l_reads_cells(p->part, p->image, p->words, bank), sound && model_reads_cells(p->part, &r, bank));
     if (!same) {

@@ -32,6 +32,9 @@ static void read_back(void)
     SAME(charge_now(), STORED_CHARGE);
     SAME(exposed_word(), at);
     SAME(exposed_block(), K5L_NONE);
+    SAME(debris_needed(), 1);
+    SAME(until_end(), 0);
+    SAME(until_change() & changing_word() & changing_block(), K5L_NONE);
     HOLDS(!reads_cells(0) && reads_cells(1) && reads_cells(2) && reads_cells(3));
     for (record[PROGRAM_DQ6] = 0; record[PROGRAM_DQ6] < 2; record[PROGRAM_DQ6]++) {
         CHANGES_NOTHING(bus_read(at), 0xC4);
@@ -83,6 +86,9 @@ static void resumed(void)
     SAME(record[PROGRAM_LEFT], 4);
     SAME(bus_write(length - 1, 0x30), K5L_DONE);
     SAME(record[OPERATION], PROGRAM);
+    SAME(until_end(), 4);
+    SAME(until_change(), 4);
+    SAME(changing_word(), at);
     SAME(bus_read(at), 0xC4);
     SAME(bus_read(at), 0x84);
     CHANGES_NOTHING(bus_write(at, 0xB0), K5L_BUSY);

@@ -1,13 +1,27 @@
-// What C asks of a record besides its four events, and of the blocks of a part.
+// What C asks of a record besides its four events, and of the blocks of a part. An idle device is asked by a way of its own, as
+// the most common case.
 ghost use mathlib.Core.Path.{_≡_};
 ghost use Rattle.face.specs.Face.{standsSound, placeNumber, faceClock, faceCharge, faceFirstWord, faceBlockWords};
 ghost use Rattle.asked.specs.Asked.{faceExposedBlock, faceExposedWord, faceReadsCells};
 use plain::Place;
 
+pub mod addresses;
+pub mod foreseen;
+
 // No block, no word, no clock, no charge.
 const NONE: u64 = 0xffffffffffffffff;
 
 pub fn is_sound(part: u64, words: &[u64]) -> bool
+    ensures { λ r. ⌜ r ≡ standsSound part (now (words .entry)) ⌝ }
+{
+    if image::is_idle(words) {
+        return idling::is_sound(part, words);
+    }
+    stands_sound(part, words)
+}
+
+// The same of a device in any state.
+fn stands_sound(part: u64, words: &[u64]) -> bool
     ensures { λ r. ⌜ r ≡ standsSound part (now (words .entry)) ⌝ }
 {
     if !calls::stands(part, words) {
@@ -28,6 +42,9 @@ fn place_number(place: Place) -> u64
 pub fn exposed_block(part: u64, words: &[u64]) -> u64
     ensures { λ r. ⌜ r ≡ faceExposedBlock part (now (words .entry)) ⌝ }
 {
+    if image::is_idle(words) {
+        return NONE;
+    }
     if !calls::stands(part, words) {
         return NONE;
     }
@@ -39,6 +56,9 @@ pub fn exposed_block(part: u64, words: &[u64]) -> u64
 pub fn exposed_word(part: u64, words: &[u64]) -> u64
     ensures { λ r. ⌜ r ≡ faceExposedWord part (now (words .entry)) ⌝ }
 {
+    if image::is_idle(words) {
+        return NONE;
+    }
     if !calls::stands(part, words) {
         return NONE;
     }
@@ -48,6 +68,23 @@ pub fn exposed_word(part: u64, words: &[u64]) -> u64
 }
 
 pub fn reads_cells(part: u64, words: &[u64], bank: usize) -> bool
+    ensures { λ r. ⌜ r ≡ faceReadsCells part (now (words .entry)) bank ⌝ }
+{
+    // Called in two places, it is left out of line: what it saves on the stack is not saved for an idle device.
+    if !calls::is_part(part) {
+        return gives_cells(part, words, bank);
+    }
+    if image::is_idle(words) {
+        if calls::part_named(part).banks() <= bank {
+            return false;
+        }
+        return idling::is_sound(part, words);
+    }
+    gives_cells(part, words, bank)
+}
+
+// The same of a device in any state.
+fn gives_cells(part: u64, words: &[u64], bank: usize) -> bool
     ensures { λ r. ⌜ r ≡ faceReadsCells part (now (words .entry)) bank ⌝ }
 {
     if !calls::stands(part, words) {
@@ -63,7 +100,13 @@ pub fn reads_cells(part: u64, words: &[u64], bank: usize) -> bool
 pub fn clock(part: u64, words: &[u64]) -> u64
     ensures { λ r. ⌜ r ≡ faceClock part (now (words .entry)) ⌝ }
 {
-    if !is_sound(part, words) {
+    if image::is_idle(words) {
+        if !idling::is_sound(part, words) {
+            return NONE;
+        }
+        return image::meter_of(words).clock;
+    }
+    if !stands_sound(part, words) {
         return NONE;
     }
     image::meter_of(words).clock
@@ -72,7 +115,13 @@ pub fn clock(part: u64, words: &[u64]) -> u64
 pub fn charge(part: u64, words: &[u64]) -> u64
     ensures { λ r. ⌜ r ≡ faceCharge part (now (words .entry)) ⌝ }
 {
-    if !is_sound(part, words) {
+    if image::is_idle(words) {
+        if !idling::is_sound(part, words) {
+            return NONE;
+        }
+        return image::meter_of(words).charge;
+    }
+    if !stands_sound(part, words) {
         return NONE;
     }
     image::meter_of(words).charge

@@ -3,7 +3,20 @@ use Rattle.audit.specs.Asks.{AsksNothing}
 
 pub asks-nothing : AsksNothing
 asks-nothing = (
-  (λ p r cells debris t a w n. record { fresh = tt; is-sound = tt; read = tt; write = tt; wait = tt; cut = tt; exposed = tt; reads-cells = tt }),
+  (λ p r cells debris t a w n.
+      record {
+        fresh = tt;
+        is-sound = tt;
+        read = tt;
+        write = tt;
+        wait = tt;
+        cut = tt;
+        exposed = tt;
+        reads-cells = tt;
+        until-end = tt;
+        until-change = tt;
+        debris-needed = tt;
+      }),
   (λ part words cells debris t a w n.
       record {
         fresh = tt;
@@ -19,6 +32,13 @@ asks-nothing = (
         charge = tt;
         first-word = tt;
         block-words = tt;
+        until-end = tt;
+        until-change = tt;
+        changing-block = tt;
+        changing-word = tt;
+        debris-needed = tt;
+        block-of = tt;
+        bank-of = tt;
         small-refusal = tt;
         small-block = tt;
         small-bank = tt;

@@ -11,4 +11,7 @@ pub mod Calls
 pub mod CallPromises
 pub mod CallAsked
 pub mod SuspendedProgram
+pub mod Foreseen
+pub mod CallForeseen
 pub mod Replayed
+pub mod Mapped

@@ -49,7 +49,7 @@ one-more : (p : Part) (r : Device) (l now : Lent) (e : Event) (es : List Event) 
     → after e rest y ≡ after e (run p (step p r l e .answer .device) (step p r l e .lent) es) (step p r l e .answer)
 one-more p r l now e es y rest is h = rw (h, is .answer, is .lent)
 
-performed-run : {p : Part} {r : Device} {l : Lent} {es : List Event} {ran : Ran} → Performed p r l es ran → ran ≡ run p r l es
+pub performed-run : {p : Part} {r : Device} {l : Lent} {es : List Event} {ran : Ran} → Performed p r l es ran → ran ≡ run p r l es
 unfolding run
 performed-run none = refl
 performed-run {p} {r} {l} (more {after = now} {e = e} {es = es} {y = y} {rest = rest} f g) = one-more p r l now e es y rest (allowed-is f) (performed-run g)

@@ -20,6 +20,9 @@ use Rattle.machine.proofs.wait.Reads as Wait
 use Rattle.machine.proofs.cut.Reads as Cut
 use Rattle.machine.proofs.exposed.Reads as Exposed
 use Rattle.machine.proofs.reads_cells.Reads as ReadsCells
+use Rattle.machine.proofs.until_end.Reads as UntilEnd
+use Rattle.machine.proofs.until_change.Reads as UntilChange
+use Rattle.machine.proofs.debris_needed.Reads as DebrisNeeded
 use Rattle.emulator.proofs.k5l_fresh.Reads as CFresh
 use Rattle.emulator.proofs.k5l_read.Reads as CRead
 use Rattle.emulator.proofs.k5l_write.Reads as CWrite
@@ -33,6 +36,13 @@ use Rattle.emulator.proofs.asked_of.k5l_clock.Reads as CClock
 use Rattle.emulator.proofs.asked_of.k5l_charge.Reads as CCharge
 use Rattle.emulator.proofs.asked_of.k5l_first_word.Reads as CFirstWord
 use Rattle.emulator.proofs.asked_of.k5l_block_words.Reads as CBlockWords
+use Rattle.emulator.proofs.foreseen.k5l_until_end.Reads as CUntilEnd
+use Rattle.emulator.proofs.foreseen.k5l_until_change.Reads as CUntilChange
+use Rattle.emulator.proofs.foreseen.k5l_changing_block.Reads as CChangingBlock
+use Rattle.emulator.proofs.foreseen.k5l_changing_word.Reads as CChangingWord
+use Rattle.emulator.proofs.foreseen.k5l_debris_needed.Reads as CDebrisNeeded
+use Rattle.emulator.proofs.addresses.k5l_block_of.Reads as CBlockOf
+use Rattle.emulator.proofs.addresses.k5l_bank_of.Reads as CBankOf
 
 -- the functions of `machine`
 pub record MachineAsks (p : Part) (r : Device) (cells debris : RefT (List ℕ)) (t : Lfts 2) (a w n : ℕ) : Type 0 where
@@ -44,6 +54,9 @@ pub record MachineAsks (p : Part) (r : Device) (cells debris : RefT (List ℕ)) 
   pub cut : Cut.Asked t (p, (r, (cells, (debris, tt))))
   pub exposed : Exposed.Asked tt (p, (r, tt))
   pub reads-cells : ReadsCells.Asked tt (p, (r, (n, tt)))
+  pub until-end : UntilEnd.Asked tt (p, (r, tt))
+  pub until-change : UntilChange.Asked tt (p, (r, tt))
+  pub debris-needed : DebrisNeeded.Asked tt (p, (r, tt))
 
 -- the functions of the header
 pub record HeaderAsks (part : ℕ) (words cells debris : RefT (List ℕ)) (t : Lfts 3) (a w n : ℕ) : Type 0 where
@@ -60,6 +73,13 @@ pub record HeaderAsks (part : ℕ) (words cells debris : RefT (List ℕ)) (t : L
   pub charge : CCharge.Asked (t .0, tt) (part, (words, tt))
   pub first-word : CFirstWord.Asked tt (part, (n, tt))
   pub block-words : CBlockWords.Asked tt (part, (n, tt))
+  pub until-end : CUntilEnd.Asked (t .0, tt) (part, (words, tt))
+  pub until-change : CUntilChange.Asked (t .0, tt) (part, (words, tt))
+  pub changing-block : CChangingBlock.Asked (t .0, tt) (part, (words, tt))
+  pub changing-word : CChangingWord.Asked (t .0, tt) (part, (words, tt))
+  pub debris-needed : CDebrisNeeded.Asked (t .0, tt) (part, (words, tt))
+  pub block-of : CBlockOf.Asked tt (part, (a, tt))
+  pub bank-of : CBankOf.Asked tt (part, (a, tt))
   pub small-refusal : SmallRefusal.Asked tt (a, tt)
   pub small-block : SmallBlock.Asked tt (a, tt)
   pub small-bank : SmallBank.Asked tt (a, tt)

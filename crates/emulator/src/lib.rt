@@ -3,7 +3,9 @@
 ghost use mathlib.Core.Path.{_≡_};
 ghost use Rattle.face.specs.Face.{packed, freshRefusal, freshImage, faceRead, faceWrite, faceWait, faceCut};
 
+pub mod addresses;
 pub mod asked_of;
+pub mod foreseen;
 
 #[no_mangle]
 pub extern "C" fn k5l_fresh(words: &mut [u64]) -> u64
@@ -18,6 +20,10 @@ pub extern "C" fn k5l_read(part: u64, words: &mut [u64], cells: &[u16], address:
     ensures { λ r. ⌜ r ≡ packed (faceRead part (now (words .entry)) (now (cells .entry)) address) ⌝ }
     ensures { λ r. ⌜ now (words .exit) ≡ faceRead part (now (words .entry)) (now (cells .entry)) address .image ⌝ }
 {
+    // Called in two places, it is left out of line: what it saves on the stack is not saved for an idle device.
+    if !calls::is_part(part) {
+        return bus::read(part, words, cells, address);
+    }
     if image::is_idle(words) {
         return idling::read(part, words, cells, address);
     }
@@ -35,6 +41,9 @@ pub extern "C" fn k5l_write(
     ensures { λ r. ⌜ r ≡ faceWrite part (now (words .entry)) (now (cells .entry)) address word .refusal ⌝ }
     ensures { λ r. ⌜ now (words .exit) ≡ faceWrite part (now (words .entry)) (now (cells .entry)) address word .image ⌝ }
 {
+    if !calls::is_part(part) {
+        return bus::write(part, words, cells, address, word);
+    }
     if image::is_idle(words) {
         return idling::write(part, words, cells, address, word);
     }
@@ -52,6 +61,9 @@ pub extern "C" fn k5l_wait(
     ensures { λ r. ⌜ now (words .exit) ≡ faceWait part (now (words .entry)) (now (cells .entry)) microseconds .image ⌝ }
     ensures { λ r. ⌜ now (cells .exit) ≡ faceWait part (now (words .entry)) (now (cells .entry)) microseconds .cells ⌝ }
 {
+    if !calls::is_part(part) {
+        return lapses::wait(part, words, cells, microseconds);
+    }
     if image::is_idle(words) {
         return idling::wait(part, words, cells, microseconds);
     }

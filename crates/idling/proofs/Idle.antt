@@ -28,7 +28,7 @@ use Rattle.plain.specs.Sound.{sound}
 use Rattle.plain.specs.Status.{look, polls, readingOn, rests}
 use Rattle.plain.specs.Time.{moment}
 use Rattle.plain.specs.Machine.{Fit, Outcome, outcome, refused, waited, readEvent, writeEvent, waitEvent}
-use Rattle.plain.proofs.Tools.{by-cases, both}
+use Rattle.plain.proofs.Tools.{by-cases, both, both-left, both-right}
 use Rattle.plain.proofs.Facts.{sound-clock, sound-charge}
 use Rattle.plain.proofs.Ladder.{entry-state, entry-cells, entry-admitted}
 use Rattle.plain.proofs.EventLaws as events
@@ -39,7 +39,7 @@ use Rattle.layout.specs.Stored.{withMeter, withCommand}
 use Rattle.layout.proofs.Idle.{idle-well, idle-device}
 use Rattle.layout.proofs.Stored.{stored-meter, stored-command}
 use Rattle.face.specs.Entry.{faceEntry}
-use Rattle.face.specs.Face.{Faced, isPart, partNamed, stands, answered, shown, faceRead, faceWrite, faceWait}
+use Rattle.face.specs.Face.{Faced, isPart, partNamed, stands, standsSound, answered, shown, faceRead, faceWrite, faceWait}
 use Rattle.face.proofs.Faces.{Enters, enters, kept, entry-none, entry-some, read-some, write-some, wait-some}
 
 module _ (part : ℕ) (i : List ℕ) (idle : idleWords i ≡ true) where
@@ -57,20 +57,37 @@ module _ (part : ℕ) (i : List ℕ) (idle : idleWords i ≡ true) where
   unfolding stands
   stands-not h = rw h
 
+  -- ---- its soundness
+
+  pub no-part : isPart part ≡ false → standsSound part i ≡ false
+  unfolding standsSound
+  no-part h = rw (stands-not h)
+
+  pub a-part : isPart part ≡ true → standsSound part i ≡ sound (partNamed part) found
+  unfolding standsSound
+  a-part h = rw (stands-idle h, idle-device i idle)
+
   module _ (cells : List ℕ) where
-    pub no-part : isPart part ≡ false → faceEntry part i cells ≡ Barred State
-    no-part h = entry-none part i cells (stands-not h)
+    pub not-sound : standsSound part i ≡ false → faceEntry part i cells ≡ Barred State
+    unfolding standsSound
+    not-sound u =
+        by-cases (stands part i) (λ s. entry-some part i cells s ∙ entry-state (partNamed part) (deviceOf i) (lent cells) (rw s at u))
+        (entry-none part i cells)
 
-    pub not-sound : isPart part ≡ true → sound (partNamed part) found ≡ false → faceEntry part i cells ≡ Barred State
-    not-sound h u = entry-some part i cells (stands-idle h) ∙ rw (idle-device i idle) (entry-state (partNamed part) found (lent cells) u)
+    module _ (s : standsSound part i ≡ true) where
+      its : stands part i ≡ true
+      unfolding standsSound
+      its = both-left (stands part i) _ s
 
-    pub not-whole : isPart part ≡ true → sound (partNamed part) found ≡ true → (length cells ≡ wordCount (partNamed part) → ⊥) → faceEntry part i cells ≡ Barred Cells
-    not-whole h s n = entry-some part i cells (stands-idle h) ∙ rw (idle-device i idle) (entry-cells (partNamed part) found (lent cells) s n)
+      so : sound (partNamed part) (deviceOf i) ≡ true
+      unfolding standsSound
+      so = both-right (stands part i) _ s
 
-    pub goes-in : isPart part ≡ true → sound (partNamed part) found ≡ true → length cells ≡ wordCount (partNamed part) → faceEntry part i cells ≡ Admitted
-    goes-in h s n =
-        entry-some part i cells (stands-idle h)
-        ∙ rw (idle-device i idle) (entry-admitted (partNamed part) found (lent cells) (record { sound = s; whole = n }))
+      pub not-whole : (length cells ≡ wordCount (partNamed part) → ⊥) → faceEntry part i cells ≡ Barred Cells
+      not-whole n = entry-some part i cells its ∙ entry-cells (partNamed part) (deviceOf i) (lent cells) so n
+
+      pub goes-in : length cells ≡ wordCount (partNamed part) → faceEntry part i cells ≡ Admitted
+      goes-in n = entry-some part i cells its ∙ entry-admitted (partNamed part) (deviceOf i) (lent cells) (record { sound = so; whole = n })
 
     module _ (e : faceEntry part i cells ≡ Admitted) where
       stood : stands part i ≡ true

@@ -1,10 +1,10 @@
-// Events on an idle device, at ground with nothing that runs or is suspended: what an emulator asks most. They read the few
-// words that matter and leave the others where they are.
+// Events on an idle device, at ground with nothing that runs or is suspended: what an emulator asks most; and whether it is
+// sound. They read the few words that matter and leave the others where they are.
 ghost use mathlib.Core.Path.{_≡_};
 ghost use mathlib.Core.Bool.{true};
 ghost use Rattle.layout.specs.Image.{idleWords};
 ghost use Rattle.face.specs.Entry.{faceEntry};
-ghost use Rattle.face.specs.Face.{packed, faceRead, faceWrite, faceWait};
+ghost use Rattle.face.specs.Face.{standsSound, packed, faceRead, faceWrite, faceWait};
 
 pub mod fresh;
 
@@ -84,17 +84,23 @@ fn entry(part: u64, words: &[u64], cells: &[u16]) -> Entry
     requires { ⌜ idleWords (now words) ≡ true ⌝ }
     ensures { λ r. ⌜ r ≡ faceEntry part (now (words .entry)) (now (cells .entry)) ⌝ }
 {
-    if !calls::is_part(part) {
+    if !is_sound(part, words) {
         return Entry::Barred(Refusal::State);
     }
-    let named = calls::part_named(part);
-    let meter = image::meter_of(words);
-    let bits = image::bits_of(words);
-    if !soundness::is_sound_idle(named, meter, bits) {
-        return Entry::Barred(Refusal::State);
-    }
-    if cells.len() != named.words() {
+    if cells.len() != calls::part_named(part).words() {
         return Entry::Barred(Refusal::Cells);
     }
     Entry::Admitted
+}
+
+pub fn is_sound(part: u64, words: &[u64]) -> bool
+    requires { ⌜ idleWords (now words) ≡ true ⌝ }
+    ensures { λ r. ⌜ r ≡ standsSound part (now (words .entry)) ⌝ }
+{
+    if !calls::is_part(part) {
+        return false;
+    }
+    let meter = image::meter_of(words);
+    let bits = image::bits_of(words);
+    soundness::is_sound_idle(calls::part_named(part), meter, bits)
 }

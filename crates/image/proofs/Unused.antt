@@ -9,6 +9,7 @@ use lib.Bits.{bitOr, or-add-and, and-le-l, and-le-r}
 use lib.Dec.{eqb}
 use borrow.Author.Tests.{eqb-true}
 use Rattle.plain.proofs.Tools.{by-cases}
+use Rattle.layout.specs.Places.{commandAt, placeAt, operationAt, listAt, dybAt}
 use Rattle.layout.specs.Image.{word, wordsFrom, zeros, unused}
 
 or-zero : (a b : ℕ) → eqb (bitOr a b) 0 ≡ (eqb a 0 && eqb b 0)
@@ -29,6 +30,20 @@ and-and false b c = refl
 true-and : (a : Bool) → a ≡ (a && true)
 true-and true = refl
 true-and false = refl
+
+-- ---- the numbers first, then what they tell of
+
+three-and : (a b c d : Bool) → ((a && (b && (c && true))) && d) ≡ (a && (b && (c && d)))
+three-and true true c d = and-and c true d
+three-and true false c d = refl
+three-and false b c d = refl
+
+pub numbers-first : (i : List ℕ) → (unused i commandAt listAt && unused i listAt dybAt) ≡ unused i commandAt dybAt
+unfolding wordsFrom zeros
+numbers-first i =
+    three-and (eqb (word i commandAt) 0) (eqb (word i placeAt) 0) (eqb (word i operationAt) 0) (unused i listAt dybAt)
+
+-- ---- by the OR
 
 -- the words before k are joined, and with those from k on unused if all are
 pub record Joined (i : List ℕ) (from end joined k : ℕ) : Type 0 where

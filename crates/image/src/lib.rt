@@ -34,7 +34,11 @@ pub fn is_idle(words: &[u64]) -> bool
     if !is_marked(words) {
         return false;
     }
-    sections::are_unused(words, layout::COMMAND_AT, layout::DYB_AT)
+    // The numbers of a command and of an operation first: they tell nearly every device that is not idle.
+    if !sections::are_unused(words, layout::COMMAND_AT, layout::LIST_AT) {
+        return false;
+    }
+    sections::are_unused(words, layout::LIST_AT, layout::DYB_AT)
 }
 
 // As many words as a record has, with the layout's number, and one bit for the lock.

@@ -12,6 +12,10 @@ use plain::Entry;
 use plain::Place;
 use plain::Refusal;
 
+pub mod foreseen;
+
+pub use foreseen::Figure;
+
 // The checks that every event begins with: STATE, then CELLS. It is told whether the record is sound, and not handed the record,
 // which the compiler would copy.
 pub fn entry(part: Part, good: bool, cells: &[u16]) -> Entry

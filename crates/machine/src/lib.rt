@@ -6,15 +6,18 @@ ghost use Rattle.plain.specs.Record.{fresh, device};
 ghost use Rattle.plain.specs.Sound.{sound};
 ghost use Rattle.plain.specs.Machine.{readEvent, writeEvent, waitEvent, cutEvent};
 ghost use Rattle.judged.specs.Asked.{exposedNow, readsCells};
+ghost use Rattle.judged.specs.Foreseen.{endNow, changeNow, debrisNow};
 use access::Sight;
 use cutting::Exposed;
 use elapsed::Lapse;
 use geometry::Part;
+use judged::Figure;
 use meter::Meter;
 use plain::Answer;
 use plain::Device;
 use plain::Entry;
 use plain::Operation;
+use remaining::Change;
 
 // "A fresh device has clock 0, charge 0, no operation, no protection, any cells."
 pub fn fresh() -> Device
@@ -101,4 +104,25 @@ pub fn reads_cells(part: Part, device: Device, bank: usize) -> bool
     ensures { λ r. ⌜ r ≡ readsCells part device bank ⌝ }
 {
     judged::reads_cells(part, device, bank)
+}
+
+// How many microseconds until nothing runs any more if nobody writes; unknown of a record that is not sound.
+pub fn until_end(part: Part, device: Device) -> Figure
+    ensures { λ r. ⌜ r ≡ endNow part device ⌝ }
+{
+    judged::foreseen::until_end(part, device)
+}
+
+// What the device does next by itself: when, and at which word or block; nothing for a record that is not sound.
+pub fn until_change(part: Part, device: Device) -> Change
+    ensures { λ r. ⌜ r ≡ changeNow part device ⌝ }
+{
+    judged::foreseen::until_change(part, device)
+}
+
+// How many words of debris a cut would need if it came now; unknown of a record that is not sound.
+pub fn debris_needed(part: Part, device: Device) -> Figure
+    ensures { λ r. ⌜ r ≡ debrisNow part device ⌝ }
+{
+    judged::foreseen::debris_needed(part, device)
 }

@@ -1,3 +1,4 @@
 pub mod Rests
 pub mod GivesCells
 pub mod Disturbed
+pub mod Lasts

@@ -1,8 +1,10 @@
+use mathlib.Core.Path.{sym, _∙_}
 use native.Mathlib.Omega.{arith}
 use borrow.Author.Needs.{needs}
 use Rattle.layout.specs.Image.{idleWords}
 use Rattle.layout.proofs.Canonical.{is-marked}
 use Rattle.image.proofs.Tested.{holds, fails}
+use Rattle.image.proofs.Unused.{numbers-first}
 use Rattle.image.proofs.is_idle.Statement.{statement}
 use Rattle.image.proofs.is_idle.Tie as tie
 
@@ -14,4 +16,6 @@ is-idle-spec =
     (λ c κs. search needs)  -- is-marked-requires
     (λ c. rw (fails (c .before .is-marked .ensures) (c .if1 .taken)))  -- returns
     (λ c κs. let long = is-marked _ (holds (c .before .is-marked .ensures) (c .if1 .left)) .long in (omega arith, omega arith))  -- are-unused-requires
-    (λ c. rw (holds (c .before .before .is-marked .ensures) (c .before .if1 .left)) (c .are-unused .ensures)))  -- returns-2
+    (λ c. rw (holds (c .before .before .before .is-marked .ensures) (c .before .before .if1 .left)) (sym (sym (numbers-first _) ∙ rw (fails (c .before .are-unused .ensures) (c .if2 .taken)))))  -- returns-2
+    (λ c κs. let long = is-marked _ (holds (c .before .before .before .is-marked .ensures) (c .before .before .if1 .left)) .long in (omega arith, omega arith))  -- are-unused-requires-2
+    (λ c. rw (holds (c .before .before .before .before .is-marked .ensures) (c .before .before .before .if1 .left)) (c .are-unused2 .ensures ∙ sym (sym (numbers-first _) ∙ rw (holds (c .before .before .are-unused .ensures) (c .before .if2 .left))))))  -- returns-3

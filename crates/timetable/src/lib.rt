@@ -1,0 +1,1 @@
+// Worked figures of what is foreseen: it has specs and proofs alone.

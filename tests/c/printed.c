@@ -1,0 +1,215 @@
+/* The record printer, held to what it should print of some records, sound and not. */
+#include "check.h"
+#include "k5l2931cam_print.h"
+
+#include <stdlib.h>
+#include <string.h>
+
+static uint64_t record[K5L_RECORD_WORDS];
+
+static FILE *nameless_file(void)
+{
+    FILE *file = tmpfile();
+
+    if (file == NULL) {
+        perror("printed: no temporary file");
+        exit(2);
+    }
+    return file;
+}
+
+/* What is printed, to the byte. */
+static void prints(uint64_t part, size_t words, const char *expected)
+{
+    char got[2048];
+    size_t length;
+    FILE *out = nameless_file();
+
+    k5l_print_record(out, part, record, words);
+    rewind(out);
+    length = fread(got, 1, sizeof got - 1, out);
+    got[length] = '\0';
+    fclose(out);
+    if (!SAME(strcmp(got, expected), 0))
+        check_note("printed:\n%sexpected:\n%s", got, expected);
+}
+
+static void idle(void)
+{
+    SAME(k5l_fresh(record, K5L_RECORD_WORDS), K5L_DONE);
+    prints(K5L_SMALL, K5L_RECORD_WORDS,
+           "record of part 0 (small), sound\n"
+           "  clock      0 us\n"
+           "  charge     0 pC\n"
+           "  command    ground\n"
+           "  operation  none\n"
+           "  DYB 1      none\n"
+           "  PPB 1      none\n"
+           "  PPB lock   0\n");
+    prints(2, K5L_RECORD_WORDS - 1,
+           "record of part 2 (which is none), not sound: every event is STATE\n"
+           "  28 words, where a record has 29\n");
+    record[3] = 11;
+    record[4] = 2;
+    record[28] = 1;
+    prints(K5L_FULL, K5L_RECORD_WORDS,
+           "record of part 1 (full), sound\n"
+           "  clock      0 us\n"
+           "  charge     0 pC\n"
+           "  command    identity reading (90H), bank 2\n"
+           "  operation  none\n"
+           "  DYB 1      none\n"
+           "  PPB 1      none\n"
+           "  PPB lock   1\n");
+}
+
+/* Blocks 39 to 41 and 64 listed, a program of 12H at 5. */
+static void erase_with_a_program(void)
+{
+    SAME(k5l_fresh(record, K5L_RECORD_WORDS), K5L_DONE);
+    record[1] = 300080;
+    record[2] = 5100171050;
+    record[5] = 6;
+    record[6] = (uint64_t)7 << 39;
+    record[7] = 1;
+    record[11] = 41;
+    record[12] = 400000;
+    record[13] = 2;
+    record[14] = 5;
+    record[15] = 0x12;
+    record[16] = 3;
+    record[17] = 1;
+    record[18] = 0xFF00;
+    record[23] = (uint64_t)1 << 63;
+    record[24] = 2;
+    record[27] = 1 << 13;
+    prints(K5L_SMALL, K5L_RECORD_WORDS,
+           "record of part 0 (small), sound\n"
+           "  clock      300080 us\n"
+           "  charge     5100171050 pC\n"
+           "  command    ground\n"
+           "  operation  suspended erase with a program running inside\n"
+           "  listed     39-41, 64\n"
+           "  in hand    41, 400000 us left\n"
+           "  toggles    DQ6 0, DQ2 1\n"
+           "  program    0012H at 5, 3 us left, DQ6 1\n"
+           "  DYB 1      8-15\n"
+           "  PPB 1      63, 65, 269\n"
+           "  PPB lock   0\n");
+}
+
+static void window(void)
+{
+    SAME(k5l_fresh(record, K5L_RECORD_WORDS), K5L_DONE);
+    record[5] = 3;
+    record[6] = 256;
+    record[11] = 8;
+    record[12] = 49;
+    prints(K5L_SMALL, K5L_RECORD_WORDS,
+           "record of part 0 (small), sound\n"
+           "  clock      0 us\n"
+           "  charge     0 pC\n"
+           "  command    ground\n"
+           "  operation  block erase in its window\n"
+           "  listed     8\n"
+           "  in hand    8, 49 us left of the window\n"
+           "  toggles    DQ6 0, DQ2 0\n"
+           "  DYB 1      none\n"
+           "  PPB 1      none\n"
+           "  PPB lock   0\n");
+}
+
+/* Whatever stands in the words is shown. */
+static void not_sound(void)
+{
+    SAME(k5l_fresh(record, K5L_RECORD_WORDS), K5L_DONE);
+    record[0] = 2;
+    record[3] = 13;
+    record[4] = 1;
+    record[5] = 4;
+    record[13] = 7;
+    record[14] = 0xABC;
+    record[22] = UINT64_MAX;
+    record[28] = 2;
+    prints(K5L_SMALL, K5L_RECORD_WORDS,
+           "record of part 0 (small), not sound: every event is STATE\n"
+           "  layout     2, where 1 is known\n"
+           "  clock      0 us\n"
+           "  charge     0 pC\n"
+           "  command    13, which is none\n"
+           "  word 4     1H, and it is not in use\n"
+           "  operation  block erase\n"
+           "  listed     none\n"
+           "  in hand    0, 0 us left\n"
+           "  toggles    DQ6 1, DQ2 1\n"
+           "  word 13    7H, where 3 is the most\n"
+           "  word 14    ABCH, and it is not in use\n"
+           "  DYB 1      256-319\n"
+           "  PPB 1      none\n"
+           "  PPB lock   2\n");
+}
+
+/* The device after some writes, from fresh: what is printed must have a line with these words. */
+struct written {
+    const char *words;
+    uint64_t wait;
+    unsigned count;
+    struct { uint64_t at; uint16_t word; } writes[8];
+};
+
+#define UNLOCKS { 0x555, 0xAA }, { 0x2AA, 0x55 }
+
+static const struct written cases[] = {
+    { "first unlock write taken", 0, 1, { UNLOCKS } },
+    { "both unlock writes taken", 0, 2, { UNLOCKS } },
+    { "A0H taken", 0, 3, { UNLOCKS, { 0x555, 0xA0 } } },
+    { "80H taken", 0, 3, { UNLOCKS, { 0x555, 0x80 } } },
+    { "80H and the first unlock write taken", 0, 4, { UNLOCKS, { 0x555, 0x80 }, UNLOCKS } },
+    { "80H and both unlock writes taken", 0, 5, { UNLOCKS, { 0x555, 0x80 }, UNLOCKS } },
+    { "48H taken", 0, 3, { UNLOCKS, { 0x555, 0x48 } } },
+    { "60H taken", 0, 3, { UNLOCKS, { 0x555, 0x60 } } },
+    { "60H and 68H taken, block 8", 0, 4, { UNLOCKS, { 0x555, 0x60 }, { 64, 0x68 } } },
+    { "60H and 60H taken", 0, 4, { UNLOCKS, { 0x555, 0x60 }, { 64, 0x60 } } },
+    { "identity reading (90H), bank 1", 0, 3, { UNLOCKS, { 0xD55, 0x90 } } },
+    { "58H reading", 0, 3, { UNLOCKS, { 0x555, 0x58 } } },
+    { " program", 0, 4, { UNLOCKS, { 0x555, 0xA0 }, { 64, 0 } } },
+    { "block erase in its window", 49, 6, { UNLOCKS, { 0x555, 0x80 }, UNLOCKS, { 64, 0x30 } } },
+    { " block erase", 50, 6, { UNLOCKS, { 0x555, 0x80 }, UNLOCKS, { 64, 0x30 } } },
+    { " suspended erase", 50, 7, { UNLOCKS, { 0x555, 0x80 }, UNLOCKS, { 64, 0x30 }, { 64, 0xB0 } } },
+    { " chip erase", 50, 6, { UNLOCKS, { 0x555, 0x80 }, UNLOCKS, { 0x555, 0x10 } } },
+};
+
+static void named(const struct written *told)
+{
+    static uint16_t cells[K5L_SMALL_WORDS];
+    FILE *out = nameless_file();
+    char line[256];
+    bool found = false;
+
+    SAME(k5l_fresh(record, K5L_RECORD_WORDS), K5L_DONE);
+    for (unsigned i = 0; i < told->count; i++)
+        SAME(k5l_write(K5L_SMALL, record, K5L_RECORD_WORDS, cells, K5L_SMALL_WORDS, told->writes[i].at, told->writes[i].word),
+             K5L_DONE);
+    SAME(k5l_wait(K5L_SMALL, record, K5L_RECORD_WORDS, cells, K5L_SMALL_WORDS, told->wait), K5L_DONE);
+    k5l_print_record(out, K5L_SMALL, record, K5L_RECORD_WORDS);
+    rewind(out);
+    while (fgets(line, sizeof line, out) != NULL) {
+        char *ends = strstr(line, told->words);
+
+        found |= ends != NULL && (ends[strlen(told->words)] == '\n' || ends[strlen(told->words)] == ',');
+    }
+    fclose(out);
+    if (!HOLDS(found))
+        check_note("  %s\n", told->words);
+}
+
+int main(void)
+{
+    idle();
+    erase_with_a_program();
+    window();
+    not_sound();
+    for (unsigned i = 0; i < sizeof cases / sizeof *cases; i++)
+        named(&cases[i]);
+    return check_report("printed");
+}
