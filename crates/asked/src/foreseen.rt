@@ -1,5 +1,9 @@
-// What C asks of what is to come.
+// What C asks of what is to come. Of an idle device nothing is, and a cut needs no debris: it is told so by a way of its own.
 ghost use mathlib.Core.Path.{_≡_};
+ghost use mathlib.Core.Bool.{true};
+ghost use Rattle.plain.specs.Choice.{if_then_else_};
+ghost use Rattle.layout.specs.Image.{idleWords};
+ghost use Rattle.face.specs.Face.{standsSound, none};
 ghost use Rattle.asked.specs.Foreseen.{figureNumber, changeTime, changeBlock, changeWord, faceUntilEnd, faceUntilChange, faceChangingBlock, faceChangingWord, faceDebrisNeeded};
 use crate::NONE;
 use judged::Figure;
@@ -47,9 +51,23 @@ fn change_word(change: Change) -> u64
     }
 }
 
+// A figure of an idle device: 0, if it is sound.
+fn idle_figure(part: u64, words: &[u64]) -> u64
+    requires { ⌜ idleWords (now words) ≡ true ⌝ }
+    ensures { λ r. ⌜ r ≡ (if standsSound part (now (words .entry)) then 0 else none) ⌝ }
+{
+    if idling::is_sound(part, words) {
+        return 0;
+    }
+    NONE
+}
+
 pub fn until_end(part: u64, words: &[u64]) -> u64
     ensures { λ r. ⌜ r ≡ faceUntilEnd part (now (words .entry)) ⌝ }
 {
+    if image::is_idle(words) {
+        return idle_figure(part, words);
+    }
     if !calls::stands(part, words) {
         return NONE;
     }
@@ -59,6 +77,9 @@ pub fn until_end(part: u64, words: &[u64]) -> u64
 pub fn until_change(part: u64, words: &[u64]) -> u64
     ensures { λ r. ⌜ r ≡ faceUntilChange part (now (words .entry)) ⌝ }
 {
+    if image::is_idle(words) {
+        return NONE;
+    }
     if !calls::stands(part, words) {
         return NONE;
     }
@@ -68,6 +89,9 @@ pub fn until_change(part: u64, words: &[u64]) -> u64
 pub fn changing_block(part: u64, words: &[u64]) -> u64
     ensures { λ r. ⌜ r ≡ faceChangingBlock part (now (words .entry)) ⌝ }
 {
+    if image::is_idle(words) {
+        return NONE;
+    }
     if !calls::stands(part, words) {
         return NONE;
     }
@@ -77,6 +101,9 @@ pub fn changing_block(part: u64, words: &[u64]) -> u64
 pub fn changing_word(part: u64, words: &[u64]) -> u64
     ensures { λ r. ⌜ r ≡ faceChangingWord part (now (words .entry)) ⌝ }
 {
+    if image::is_idle(words) {
+        return NONE;
+    }
     if !calls::stands(part, words) {
         return NONE;
     }
@@ -86,6 +113,9 @@ pub fn changing_word(part: u64, words: &[u64]) -> u64
 pub fn debris_needed(part: u64, words: &[u64]) -> u64
     ensures { λ r. ⌜ r ≡ faceDebrisNeeded part (now (words .entry)) ⌝ }
 {
+    if image::is_idle(words) {
+        return idle_figure(part, words);
+    }
     if !calls::stands(part, words) {
         return NONE;
     }

@@ -207,7 +207,7 @@ module _ (part : ℕ) (words cells : List ℕ) (f : Faced) (k : ℕ) (c : Called
         reads = λ a g q was now.
             let one : g ≡ shown (readEvent p r l a) = called-is part words cells was ∙ called-some part words cells (read a) standing in
             let two : q ≡ shown (readEvent p (left p r l k t) (later p r l k t .lent) a) =
-                on-words part known (left p r l k t) (f .image) (f .cells) (later p r l k t .lent .cells) (read a) q image-is cells-is left-fits now in
+            on-words part known (left p r l k t) (f .image) (f .cells) (later p r l k t .lent .cells) (read a) q image-is cells-is left-fits now in
             let same = same-read p r l k t h a in
             rw (one, two) (ap number (same .0), same .1);
       }
@@ -258,9 +258,10 @@ comes (BlockDone d) k g h = eq-eqb (d .after) k h
 pub change-foreseen-calls : ChangeForeseenCalls
 change-foreseen-calls part words cells f t at time block word k told block-is word-is c e =
     let s = sound-words part words cells f k c e in
-    rw (told, block-is, word-is, time-told part words s, block-told part words s, word-told part words s)
-    ((λ h. before-call part words cells f k c e (not-yet (changeOf (runsIn words)) k h)),
-    (λ h. just-call part words cells f k c e (comes (changeOf (runsIn words)) k (wait-short part words cells f k c e) h)))
+    rw (told, block-is, word-is, time-told part words s, block-told part words s, word-told part words s) (
+      (λ h. before-call part words cells f k c e (not-yet (changeOf (runsIn words)) k h)),
+      (λ h. just-call part words cells f k c e (comes (changeOf (runsIn words)) k (wait-short part words cells f k c e) h)),
+    )
 
 -- ---- the debris
 
@@ -271,6 +272,7 @@ debris-foreseen-calls part words cells debris f t at n s told whole c =
     let r = deviceOf words in
     let is : f ≡ shown (cutEvent p r (lent cells) debris) = called-is part words cells c ∙ called-some part words cells (cut debris) (stood part words s) in
     let fit : Fit p r (lent cells) = record { sound = judged part words s; whole = whole } in
-    rw (told, debris-told part words s, is)
-    ((λ h. ap (λ (o : Outcome). number (o .answer .refusal)) (cut-passes p r (lent cells) debris fit h)),
-    ((λ h. ap (λ (o : Outcome). number (o .answer .refusal)) (cut-debris p r (lent cells) debris fit h)), needed-most p (r .operation)))
+    rw (told, debris-told part words s, is) (
+      (λ h. ap (λ (o : Outcome). number (o .answer .refusal)) (cut-passes p r (lent cells) debris fit h)),
+      ((λ h. ap (λ (o : Outcome). number (o .answer .refusal)) (cut-debris p r (lent cells) debris fit h)), needed-most p (r .operation)),
+    )

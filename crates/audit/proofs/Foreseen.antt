@@ -236,9 +236,10 @@ debris-foreseen p r l after debris n y told whole c =
     (λ s.
     let is : n ≡ debrisNeeded p (r .operation) = rw s at (ap figureNumber told) in
     let fit : Fit p r l = record { sound = s; whole = whole } in
-    rw (allowed-is c .answer, is)
-    ((λ h. ap (λ (o : Outcome). o .answer .refusal) (cut-passes p r l debris fit h)),
-    ((λ h. ap (λ (o : Outcome). o .answer .refusal) (cut-debris p r l debris fit h)), needed-most p (r .operation))))
+    rw (allowed-is c .answer, is) (
+      (λ h. ap (λ (o : Outcome). o .answer .refusal) (cut-passes p r l debris fit h)),
+      ((λ h. ap (λ (o : Outcome). o .answer .refusal) (cut-debris p r l debris fit h)), needed-most p (r .operation)),
+    ))
     (λ s.
     let none : Known n ≡ Unknown = rw s at told in
     let z : _≡_ {A = ℕ} 0 1 = cc in absurd (omega arith))
