@@ -22,7 +22,7 @@ pub record Fits (p : Part) (o : Operation) : Type 0 where
   pub bits : Protection
   pub sound : operationSound p bits o ≡ true
 
--- ---- the next change: "window ends, a block or a word is finished"
+-- ---- the next change: the window ends, a word or a block is finished
 
 abbrev pub finish : (after at : ℕ) → Finish
 finish n x = record { after = n; at = x }
