@@ -13,3 +13,4 @@ pub mod CallAsked
 pub mod SuspendedProgram
 pub mod Replayed
 pub mod Mapped
+pub mod MappedCells

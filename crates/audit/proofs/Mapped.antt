@@ -1,6 +1,6 @@
 -- Where `reads_cells` said yes of a bank it says yes until the next write.
 use Prim.Native.Nat.{ℕ}
-use mathlib.Core.Path.{_≡_, refl, sym, ap, _∙_}
+use mathlib.Core.Path.{_≡_, refl, sym, _∙_}
 use mathlib.Core.Bool.{Bool, true, false, not}
 use mathlib.Core.List.{List, [], _∷_}
 use lib.Dec.{ltb}
@@ -52,7 +52,7 @@ module _ (p : Part) (r : Device) (l : Lent) (bank : ℕ) where
         climbs _ Clock _ (λ f. after-wait p bank (r .bits) (r .command) n (now r l) (sound-operation p r (f .sound) (r .operation) refl) g)
     step-gives (cut debris) h = climbs _ Debris _ (λ _. after-cut p bank)
 
-  step-mapped : (e : Event) → isWrite e ≡ false → readsCells p r bank ≡ true
+  pub step-mapped : (e : Event) → isWrite e ≡ false → readsCells p r bank ≡ true
       → readsCells p (step p r l e .answer .device) bank ≡ true
   unfolding readsCells
   step-mapped e h m =
@@ -62,11 +62,11 @@ module _ (p : Part) (r : Device) (l : Lent) (bank : ℕ) where
 
 -- ---- a run
 
-first-none : (e : Event) (es : List Event) → noWrite (e ∷ es) ≡ true → isWrite e ≡ false
+pub first-none : (e : Event) (es : List Event) → noWrite (e ∷ es) ≡ true → isWrite e ≡ false
 unfolding noWrite
 first-none e es h = not-true (isWrite e) (both-left (not (isWrite e)) (noWrite es) h)
 
-rest-none : (e : Event) (es : List Event) → noWrite (e ∷ es) ≡ true → noWrite es ≡ true
+pub rest-none : (e : Event) (es : List Event) → noWrite (e ∷ es) ≡ true → noWrite es ≡ true
 unfolding noWrite
 rest-none e es h = both-right (not (isWrite e)) (noWrite es) h
 
@@ -103,7 +103,7 @@ unfolding stands standsSound
 stands-left part words r stood fits good = both-left (stands part (imageOf r)) _ (left-stands part [] [] r (both-left (isPart part) _ stood) fits good)
 
 module _ (part : ℕ) (bank : ℕ) where
-  call-mapped : (words cells : List ℕ) (e : Event) (f : Faced) → Called part words cells e f → isWrite e ≡ false
+  pub call-mapped : (words cells : List ℕ) (e : Event) (f : Faced) → Called part words cells e f → isWrite e ≡ false
       → faceReadsCells part words bank ≡ true → faceReadsCells part (f .image) bank ≡ true
   unfolding faceReadsCells
   call-mapped words cells e f c h m =

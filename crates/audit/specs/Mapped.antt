@@ -1,5 +1,6 @@
--- Where `reads_cells` said yes of a bank it says yes until the next write: no read, wait or cut withdraws it, taken or refused. So who
--- reads the cells of a bank himself asks again after a write, and after nothing else.
+-- Where `reads_cells` said yes of a bank it says yes until the next write, and the bank's cells stay as they are: no read, wait or cut
+-- changes that, taken or refused. So who reads the cells of a bank himself, or keeps a copy of them, asks again after a write, and after
+-- nothing else.
 use Prim.Native.Nat.{ℕ, _<_}
 use mathlib.Core.Path.{_≡_}
 use mathlib.Core.Bool.{Bool, true, false, _&&_, not}
@@ -42,6 +43,11 @@ StaysMapped p =
     (r : Device) (l : Lent) (es : List Event) (bank : ℕ) → noWrite es ≡ true → readsCells p r bank ≡ true
     → readsCells p (run p r l es .device) bank ≡ true
 
+abbrev pub StaysSame : Part → Type 0
+StaysSame p =
+    (r : Device) (l : Lent) (es : List Event) (x : ℕ) → noWrite es ≡ true → readsCells p r (bankOf p x) ≡ true
+    → cellAt (run p r l es .lent) x ≡ cellAt l x
+
 -- ---- of the public functions: `machine::reads_cells` said yes, and after any run without a write it says yes again
 
 abbrev pub Says : Part → Device → (bank : ℕ) → (said : Bool) → Type 0
@@ -60,6 +66,12 @@ StaysReadCode p =
     → length (ran .lent .cells) ≡ wordCount p → a < wordCount p → Allowed p (ran .device) (ran .lent) (read a) y after
     → y ≡ answer Done (cellAt (ran .lent) a) (ran .device)
 
+-- which is the cell that it was
+abbrev pub StaysSameCode : Part → Type 0
+StaysSameCode p =
+    (r : Device) (l : Lent) (es : List Event) (ran : Ran) (x : ℕ) → Says p r (bankOf p x) true → Performed p r l es ran → noWrite es ≡ true
+    → cellAt (ran .lent) x ≡ cellAt l x
+
 -- ---- through C: the same of `k5l_reads_cells`
 
 abbrev pub SaysC : (part : ℕ) → (words : List ℕ) → (bank : ℕ) → (said : Bool) → Lfts 1 → Location → Type 0
@@ -76,3 +88,9 @@ StaysReadCalls =
     → SaysC part words (bankOf (partNamed part) a) true t at → Calls part words cells es ran → noWrite es ≡ true
     → length (ran .cells) ≡ wordCount (partNamed part) → a < wordCount (partNamed part) → Called part (ran .words) (ran .cells) (read a) f
     → f ≡ answered (number Done) (getD (ran .cells) a 0) (ran .words) (ran .cells)
+
+abbrev pub StaysSameCalls : Type 0
+StaysSameCalls =
+    (part : ℕ) (words cells : List ℕ) (es : List Event) (ran : Held) (x : ℕ) (t : Lfts 1) (at : Location)
+    → SaysC part words (bankOf (partNamed part) x) true t at → Calls part words cells es ran → noWrite es ≡ true
+    → getD (ran .cells) x 0 ≡ getD cells x 0
