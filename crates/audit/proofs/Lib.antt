@@ -12,5 +12,6 @@ pub mod CallPromises
 pub mod CallAsked
 pub mod SuspendedProgram
 pub mod Replayed
-pub mod Mapped
+pub mod MappedBanks
 pub mod MappedCells
+pub mod Mapped

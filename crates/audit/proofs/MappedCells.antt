@@ -1,4 +1,4 @@
--- The cells of a bank where `reads_cells` said yes stay as they are until the next write.
+-- No read, wait or cut changes a cell of a bank that gives its cells.
 use Prim.Native.Nat.{ℕ, zero, suc}
 use mathlib.Core.Path.{_≡_, refl, sym, ap, _∙_}
 use mathlib.Core.Bool.{true, false, _&&_, not}
@@ -51,10 +51,9 @@ use Rattle.mapping.proofs.Lasts.{after-wait}
 use Rattle.judged.specs.Asked.{readsCells}
 use Rattle.asked.specs.Asked.{faceReadsCells}
 use Rattle.audit.specs.Called.{Called, Held, Calls, none, more}
-use Rattle.audit.specs.Mapped.{isWrite, noWrite, StaysSame, StaysSameCode, StaysSameCalls}
+use Rattle.audit.specs.Mapped.{isWrite, noWrite}
 use Rattle.audit.proofs.Called.{called-is, called-some}
-use Rattle.audit.proofs.Mapped.{step-mapped, first-none, rest-none, call-mapped}
-use Rattle.audit.proofs.Same.{performed-run}
+use Rattle.audit.proofs.MappedBanks.{step-mapped, first-none, rest-none, call-mapped}
 
 module _ (p : Part) (x : ℕ) where
   -- nothing of the operation is in the word's bank
@@ -180,18 +179,16 @@ module _ (p : Part) (x : ℕ) where
         (λ f t. untouched p (r .operation) debris l (f .whole) (ltb-false (length debris) (debrisNeeded p (r .operation)) t)
         (begun-lies p (r .bits) (r .operation) (fine f)) x (no-word (r .operation) away) (no-block (r .operation) away))
 
-pub stays-same : (p : Part) → StaysSame p
+pub run-same : (p : Part) (r : Device) (l : Lent) (es : List Event) (x : ℕ) → noWrite es ≡ true → readsCells p r (bankOf p x) ≡ true
+    → cellAt (run p r l es .lent) x ≡ cellAt l x
 unfolding run
-stays-same p r l [] x h m = refl
-stays-same p r l (e ∷ es) x h m =
+run-same p r l [] x h m = refl
+run-same p r l (e ∷ es) x h m =
     let o = step p r l e in
-    stays-same p (o .answer .device) (o .lent) es x (rest-none e es h) (step-mapped p r l (bankOf p x) e (first-none e es h) m)
+    run-same p (o .answer .device) (o .lent) es x (rest-none e es h) (step-mapped p r l (bankOf p x) e (first-none e es h) m)
     ∙ step-same p x r l m e (first-none e es h)
 
--- ---- of the public functions, and through C
-
-pub stays-same-code : (p : Part) → StaysSameCode p
-stays-same-code p r l es ran x is f h = rw (performed-run f) (stays-same p r l es x h (sym is))
+-- ---- through C
 
 call-same : (part : ℕ) (words cells : List ℕ) (e : Event) (f : Faced) (x : ℕ) → Called part words cells e f → isWrite e ≡ false
     → faceReadsCells part words (bankOf (partNamed part) x) ≡ true → getD (f .cells) x 0 ≡ getD cells x 0
@@ -203,12 +200,9 @@ call-same part words cells e f x c h m =
     let maps = both-right (ltb (bankOf p x) (bankCount p)) (readsCells p r (bankOf p x)) (both-right (stands part words) _ m) in
     ap (λ (y : Faced). getD (y .cells) x 0) (called-is part words cells c ∙ called-some part words cells e stood) ∙ step-same p x r (lent cells) maps e h
 
-calls-same : {part : ℕ} {words cells : List ℕ} {es : List Event} {ran : Held} → (x : ℕ) → Calls part words cells es ran → noWrite es ≡ true
+pub calls-same : {part : ℕ} {words cells : List ℕ} {es : List Event} {ran : Held} → (x : ℕ) → Calls part words cells es ran → noWrite es ≡ true
     → faceReadsCells part words (bankOf (partNamed part) x) ≡ true → getD (ran .cells) x 0 ≡ getD cells x 0
 calls-same x none h m = refl
 calls-same {part} {words} {cells} x (more {e = e} {es = es} {f = f} c n k) h m =
     calls-same x k (rest-none e es h) (call-mapped part (bankOf (partNamed part) x) words cells e f c (first-none e es h) m)
     ∙ call-same part words cells e f x c (first-none e es h) m
-
-pub stays-same-calls : StaysSameCalls
-stays-same-calls part words cells es ran x t at is k h = calls-same x k h (sym is)
