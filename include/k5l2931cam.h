@@ -114,8 +114,8 @@ uint64_t k5l_cut(uint64_t part, uint64_t *record, size_t words, uint16_t *cells,
 uint64_t k5l_exposed_block(uint64_t part, const uint64_t *record, size_t words);
 uint64_t k5l_exposed_word(uint64_t part, const uint64_t *record, size_t words);
 
-/* Do reads in the bank give the cells and change nothing? Until the next write you may then read them yourself, whatever reads,
- * waits and cuts come between. Of a number that is no bank's: no. */
+/* Do reads in the bank give the cells and change nothing? Until the next write you may then read them yourself, and they stay as
+ * they are, whatever reads, waits and cuts come between. Of a number that is no bank's: no. */
 bool k5l_reads_cells(uint64_t part, const uint64_t *record, size_t words, uint64_t bank);
 
 /* Microseconds run and picocoulombs drawn; K5L_NONE for a record that is not sound. */
