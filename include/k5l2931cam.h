@@ -150,9 +150,9 @@ uint64_t k5l_until_change(uint64_t part, const uint64_t *record, size_t words);
 uint64_t k5l_changing_block(uint64_t part, const uint64_t *record, size_t words);
 uint64_t k5l_changing_word(uint64_t part, const uint64_t *record, size_t words);
 
-/* Do reads in the bank give the cells and change nothing? Until the next write you may then read them yourself, whatever reads,
- * waits and cuts come between. Of a number that is no bank's: no. A bank that does not may come to do so in a wait or a cut, and
- * its cells may then be others (k5l_changing_.. and k5l_exposed_.. foretell which). */
+/* Do reads in the bank give the cells and change nothing? Until the next write you may then read them yourself, and they stay as
+ * they are, whatever reads, waits and cuts come between. Of a number that is no bank's: no. A bank that does not may come to do so
+ * in a wait or a cut, and its cells may then be others (k5l_changing_.. and k5l_exposed_.. foretell which). */
 bool k5l_reads_cells(uint64_t part, const uint64_t *record, size_t words, uint64_t bank);
 
 /* Microseconds run and picocoulombs drawn; K5L_NONE for a record that is not sound. */

@@ -42,6 +42,7 @@ fn place_number(place: Place) -> u64
 pub fn exposed_block(part: u64, words: &[u64]) -> u64
     ensures { λ r. ⌜ r ≡ faceExposedBlock part (now (words .entry)) ⌝ }
 {
+    // It has begun nothing.
     if image::is_idle(words) {
         return NONE;
     }
@@ -70,7 +71,7 @@ pub fn exposed_word(part: u64, words: &[u64]) -> u64
 pub fn reads_cells(part: u64, words: &[u64], bank: usize) -> bool
     ensures { λ r. ⌜ r ≡ faceReadsCells part (now (words .entry)) bank ⌝ }
 {
-    // Called in two places, it is left out of line: what it saves on the stack is not saved for an idle device.
+    // Called in two places, the long way is left out of line: what it saves on the stack is not saved for an idle device.
     if !calls::is_part(part) {
         return gives_cells(part, words, bank);
     }

@@ -14,4 +14,6 @@ pub mod SuspendedProgram
 pub mod Foreseen
 pub mod CallForeseen
 pub mod Replayed
+pub mod MappedBanks
+pub mod MappedCells
 pub mod Mapped

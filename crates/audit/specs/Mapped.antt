@@ -1,28 +1,25 @@
--- Where `reads_cells` said yes of a bank it says yes until the next write: no read, wait or cut withdraws it, taken or refused. So who
--- reads the cells of a bank himself asks again after a write, and after nothing else.
-use Prim.Native.Nat.{ℕ, _<_}
+-- Where `reads_cells` said yes of a bank it says yes until the next write, and the bank's cells stay as they are: no read, wait or cut
+-- changes that, taken or refused. So who reads the cells of a bank himself, or keeps a copy of them, asks again after a write, and after
+-- nothing else. (Where it says yes a read gives the cell and changes nothing: Promises, CallPromises.)
+use Prim.Native.Nat.{ℕ}
 use mathlib.Core.Path.{_≡_}
 use mathlib.Core.Bool.{Bool, true, false, _&&_, not}
 use mathlib.Core.List.{List, [], _∷_}
-use lib.ListN.{length, getD}
+use lib.ListN.{getD}
 use contract.Lifetimes.{Lfts}
 use Rattle.geometry.specs.declared.Part.{Part}
-use Rattle.geometry.specs.Parts.{wordCount, bankOf}
-use Rattle.plain.specs.declared.Refusal.the-variants.{Done}
+use Rattle.geometry.specs.Parts.{bankOf}
 use Rattle.plain.specs.declared.Device.{Device}
-use Rattle.plain.specs.declared.Answer.{Answer}
 use Rattle.plain.specs.Events.{Event, read, write, wait, cut}
 use Rattle.plain.specs.Lent.{Lent, cellAt}
 use Rattle.plain.specs.Machine.{Ran, run}
-use Rattle.plain.specs.Record.{answer}
-use Rattle.plain.specs.Refusals.{number}
-use Rattle.face.specs.Face.{Faced, answered, partNamed}
+use Rattle.face.specs.Face.{partNamed}
 use Rattle.judged.specs.Asked.{readsCells}
 use Rattle.machine.proofs.reads_cells.Reads as Maps
 use Rattle.emulator.proofs.asked_of.k5l_reads_cells.Reads as CMaps
 use Rattle.audit.specs.Slices.{Location, slice}
-use Rattle.audit.specs.Performed.{Allowed, Performed}
-use Rattle.audit.specs.Called.{Called, Held, Calls}
+use Rattle.audit.specs.Performed.{Performed}
+use Rattle.audit.specs.Called.{Held, Calls}
 
 unfoldable pub isWrite : Event → Bool
 isWrite (read a) = false
@@ -40,7 +37,8 @@ noWrite (e ∷ es) = not (isWrite e) && noWrite es
 abbrev pub StaysMapped : Part → Type 0
 StaysMapped p =
     (r : Device) (l : Lent) (es : List Event) (bank : ℕ) → noWrite es ≡ true → readsCells p r bank ≡ true
-    → readsCells p (run p r l es .device) bank ≡ true
+    → let ran = run p r l es in
+    (readsCells p (ran .device) bank ≡ true) × ((x : ℕ) → bankOf p x ≡ bank → cellAt (ran .lent) x ≡ cellAt l x)
 
 -- ---- of the public functions: `machine::reads_cells` said yes, and after any run without a write it says yes again
 
@@ -49,16 +47,8 @@ Says p r bank said = Maps.Learnt tt (p, (r, (bank, tt))) said (p, (r, (bank, tt)
 
 abbrev pub StaysMappedCode : Part → Type 0
 StaysMappedCode p =
-    (r : Device) (l : Lent) (es : List Event) (ran : Ran) (bank : ℕ) (said : Bool)
-    → Says p r bank true → Performed p r l es ran → noWrite es ≡ true → Says p (ran .device) bank said → said ≡ true
-
--- and a read in the bank then gives the cell and changes nothing
-abbrev pub StaysReadCode : Part → Type 0
-StaysReadCode p =
-    (r : Device) (l after : Lent) (es : List Event) (ran : Ran) (a : ℕ) (y : Answer)
-    → Says p r (bankOf p a) true → Performed p r l es ran → noWrite es ≡ true
-    → length (ran .lent .cells) ≡ wordCount p → a < wordCount p → Allowed p (ran .device) (ran .lent) (read a) y after
-    → y ≡ answer Done (cellAt (ran .lent) a) (ran .device)
+    (r : Device) (l : Lent) (es : List Event) (ran : Ran) (bank : ℕ) → Says p r bank true → Performed p r l es ran → noWrite es ≡ true
+    → ((said : Bool) → Says p (ran .device) bank said → said ≡ true) × ((x : ℕ) → bankOf p x ≡ bank → cellAt (ran .lent) x ≡ cellAt l x)
 
 -- ---- through C: the same of `k5l_reads_cells`
 
@@ -67,12 +57,7 @@ SaysC part words bank said t at = CMaps.Learnt t (part, (slice at words, (bank, 
 
 abbrev pub StaysMappedCalls : Type 0
 StaysMappedCalls =
-    (part : ℕ) (words cells : List ℕ) (es : List Event) (ran : Held) (bank : ℕ) (said : Bool) (t u : Lfts 1) (at by : Location)
-    → SaysC part words bank true t at → Calls part words cells es ran → noWrite es ≡ true → SaysC part (ran .words) bank said u by → said ≡ true
-
-abbrev pub StaysReadCalls : Type 0
-StaysReadCalls =
-    (part : ℕ) (words cells : List ℕ) (es : List Event) (ran : Held) (a : ℕ) (f : Faced) (t : Lfts 1) (at : Location)
-    → SaysC part words (bankOf (partNamed part) a) true t at → Calls part words cells es ran → noWrite es ≡ true
-    → length (ran .cells) ≡ wordCount (partNamed part) → a < wordCount (partNamed part) → Called part (ran .words) (ran .cells) (read a) f
-    → f ≡ answered (number Done) (getD (ran .cells) a 0) (ran .words) (ran .cells)
+    (part : ℕ) (words cells : List ℕ) (es : List Event) (ran : Held) (bank : ℕ) (t u : Lfts 1) (at by : Location)
+    → SaysC part words bank true t at → Calls part words cells es ran → noWrite es ≡ true
+    → ((said : Bool) → SaysC part (ran .words) bank said u by → said ≡ true)
+    × ((x : ℕ) → bankOf (partNamed part) x ≡ bank → getD (ran .cells) x 0 ≡ getD cells x 0)

@@ -1,5 +1,6 @@
 // The C face: a device whose record C holds as words, and whose cells it lends (include/k5l2931cam.h). Every part number,
-// record, length and number is answered; there is nothing to check before a call.
+// record, length and number is answered; there is nothing to check before a call. An idle device goes a short way. The long one is
+// called in two places, so the compiler leaves it out of line: what it saves on the stack is not saved for the short one.
 ghost use mathlib.Core.Path.{_≡_};
 ghost use Rattle.face.specs.Face.{packed, freshRefusal, freshImage, faceRead, faceWrite, faceWait, faceCut};
 
@@ -20,7 +21,6 @@ pub extern "C" fn k5l_read(part: u64, words: &mut [u64], cells: &[u16], address:
     ensures { λ r. ⌜ r ≡ packed (faceRead part (now (words .entry)) (now (cells .entry)) address) ⌝ }
     ensures { λ r. ⌜ now (words .exit) ≡ faceRead part (now (words .entry)) (now (cells .entry)) address .image ⌝ }
 {
-    // Called in two places, it is left out of line: what it saves on the stack is not saved for an idle device.
     if !calls::is_part(part) {
         return bus::read(part, words, cells, address);
     }

@@ -1,17 +1,14 @@
 -- What the face answers of an idle device: the words as they are, but for the command's or the meter's.
 use Prim.Native.Nat.{ℕ, _+_, _*_, _<_, _≤_}
 use mathlib.Core.Path.{_≡_, sym, ap, _∙_}
-use mathlib.Core.Bool.{true, false, not}
+use mathlib.Core.Bool.{true, false}
 use mathlib.Core.List.{List}
 use lib.ListN.{length, getD}
-use Rattle.geometry.specs.declared.Part.{Part}
 use Rattle.geometry.specs.Parts.{wordCount}
 use Rattle.meter.specs.declared.Meter.{Meter}
 use Rattle.meter.specs.Meter.{metered}
-use Rattle.plain.specs.declared.Refusal.{Refusal}
 use Rattle.plain.specs.declared.Refusal.the-variants.{Done, State, Cells, Address, Clock, Sequence}
 use Rattle.plain.specs.declared.Operation.the-variants.{Idle}
-use Rattle.plain.specs.declared.Command.{Command}
 use Rattle.plain.specs.declared.Command.the-variants.{Ground, Entering}
 use Rattle.plain.specs.declared.Cycle.the-variants.{Unlock}
 use Rattle.plain.specs.declared.Suspension.the-variants.{Unsuspended}
@@ -26,8 +23,7 @@ use Rattle.plain.specs.Record.{device}
 use Rattle.plain.specs.Refusals.{number}
 use Rattle.plain.specs.Sound.{sound}
 use Rattle.plain.specs.Status.{look, polls, readingOn, rests}
-use Rattle.plain.specs.Time.{moment}
-use Rattle.plain.specs.Machine.{Fit, Outcome, outcome, refused, waited, readEvent, writeEvent, waitEvent}
+use Rattle.plain.specs.Machine.{Fit, outcome, waited, readEvent, writeEvent, waitEvent}
 use Rattle.plain.proofs.Tools.{by-cases, both, both-left, both-right}
 use Rattle.plain.proofs.Facts.{sound-clock, sound-charge}
 use Rattle.plain.proofs.Ladder.{entry-state, entry-cells, entry-admitted}
@@ -39,8 +35,8 @@ use Rattle.layout.specs.Stored.{withMeter, withCommand}
 use Rattle.layout.proofs.Idle.{idle-well, idle-device}
 use Rattle.layout.proofs.Stored.{stored-meter, stored-command}
 use Rattle.face.specs.Entry.{faceEntry}
-use Rattle.face.specs.Face.{Faced, isPart, partNamed, stands, standsSound, answered, shown, faceRead, faceWrite, faceWait}
-use Rattle.face.proofs.Faces.{Enters, enters, kept, entry-none, entry-some, read-some, write-some, wait-some}
+use Rattle.face.specs.Face.{isPart, partNamed, stands, standsSound, answered, shown, faceRead, faceWrite, faceWait}
+use Rattle.face.proofs.Faces.{enters, kept, entry-none, entry-some, read-some, write-some, wait-some}
 
 module _ (part : ℕ) (i : List ℕ) (idle : idleWords i ≡ true) where
   -- the record, by all there is to it
