@@ -44,6 +44,9 @@ struct side {
     void (*exposed_word)(void);
     void (*clock)(void);
     void (*charge)(void);
+    void (*until_end)(void);
+    void (*until_change)(void);
+    void (*debris_needed)(void);
 };
 
 static void library_restore(void) { memcpy(image, image_before, sizeof image); }
@@ -69,6 +72,9 @@ static void library_exposed_block(void) { answer = k5l_exposed_block(K5L_FULL, i
 static void library_exposed_word(void) { answer = k5l_exposed_word(K5L_FULL, image, K5L_RECORD_WORDS); }
 static void library_clock(void) { answer = k5l_clock(K5L_FULL, image, K5L_RECORD_WORDS); }
 static void library_charge(void) { answer = k5l_charge(K5L_FULL, image, K5L_RECORD_WORDS); }
+static void library_until_end(void) { answer = k5l_until_end(K5L_FULL, image, K5L_RECORD_WORDS); }
+static void library_until_change(void) { answer = k5l_until_change(K5L_FULL, image, K5L_RECORD_WORDS); }
+static void library_debris_needed(void) { answer = k5l_debris_needed(K5L_FULL, image, K5L_RECORD_WORDS); }
 
 static void model_side_restore(void) { memcpy(&record, &record_before, sizeof record); }
 static void model_side_read(uint64_t address)
@@ -95,12 +101,17 @@ static void model_side_exposed_block(void) { answer = model_exposed_block(MODEL_
 static void model_side_exposed_word(void) { answer = model_exposed_word(MODEL_FULL, &record); }
 static void model_side_clock(void) { answer = model_sound(MODEL_FULL, &record) ? record.clock : MODEL_NONE; }
 static void model_side_charge(void) { answer = model_sound(MODEL_FULL, &record) ? record.charge : MODEL_NONE; }
+static void model_side_until_end(void) { answer = model_until_end(MODEL_FULL, &record); }
+static void model_side_until_change(void) { answer = model_until_change(MODEL_FULL, &record); }
+static void model_side_debris_needed(void) { answer = model_debris_needed(MODEL_FULL, &record); }
 
 static const struct side sides[] = {
     { "library", library_restore, library_read, library_write, library_wait, library_cut, library_sound, library_reads_cells,
-      library_exposed_block, library_exposed_word, library_clock, library_charge },
+      library_exposed_block, library_exposed_word, library_clock, library_charge, library_until_end, library_until_change,
+      library_debris_needed },
     { "model", model_side_restore, model_side_read, model_side_write, model_side_wait, model_side_cut, model_side_sound,
-      model_side_reads_cells, model_side_exposed_block, model_side_exposed_word, model_side_clock, model_side_charge },
+      model_side_reads_cells, model_side_exposed_block, model_side_exposed_word, model_side_clock, model_side_charge,
+      model_side_until_end, model_side_until_change, model_side_debris_needed },
 };
 
 /* States that events are measured in. */
@@ -168,6 +179,9 @@ static void ask_exposed_block(const struct side *side) { side->exposed_block(); 
 static void ask_exposed_word(const struct side *side) { side->exposed_word(); }
 static void ask_clock(const struct side *side) { side->clock(); }
 static void ask_charge(const struct side *side) { side->charge(); }
+static void ask_until_end(const struct side *side) { side->until_end(); }
+static void ask_until_change(const struct side *side) { side->until_change(); }
+static void ask_debris_needed(const struct side *side) { side->debris_needed(); }
 
 /* `answer` is what the first event must be answered: what is measured is what is meant. */
 static const struct kind {
@@ -206,12 +220,18 @@ static const struct kind {
     { "ask-exposed-word-idle", 300000, UINT64_MAX, false, prepare_idle, ask_exposed_word },
     { "ask-clock-idle", 300000, 0, false, prepare_idle, ask_clock },
     { "ask-charge-idle", 300000, 0, false, prepare_idle, ask_charge },
+    { "ask-until-end-idle", 300000, 0, false, prepare_idle, ask_until_end },
+    { "ask-until-change-idle", 300000, UINT64_MAX, false, prepare_idle, ask_until_change },
+    { "ask-debris-needed-idle", 300000, 0, false, prepare_idle, ask_debris_needed },
     { "ask-sound-96-blocks", 300000, true, false, prepare_erase, ask_sound },
     { "ask-reads-cells-96-blocks", 300000, true, false, prepare_erase, ask_reads_cells },
     { "ask-exposed-block-96-blocks", 300000, 39, false, prepare_erase, ask_exposed_block },
     { "ask-exposed-word-96-blocks", 300000, UINT64_MAX, false, prepare_erase, ask_exposed_word },
     { "ask-clock-96-blocks", 300000, 50 + 1000, false, prepare_erase, ask_clock },
     { "ask-charge-96-blocks", 300000, 50 * 15 + 1000 * 17000, false, prepare_erase, ask_charge },
+    { "ask-until-end-96-blocks", 300000, 96 * 700000 - 1000, false, prepare_erase, ask_until_end },
+    { "ask-until-change-96-blocks", 300000, 700000 - 1000, false, prepare_erase, ask_until_change },
+    { "ask-debris-needed-96-blocks", 300000, BLOCK_WORDS, false, prepare_erase, ask_debris_needed },
 };
 enum { KINDS = sizeof kinds / sizeof *kinds };
 
