@@ -1,8 +1,10 @@
 -- At each moment the definitions tell what is stated: computed, with the waits in leaps.
+use Prim.Native.Nat.{ℕ}
 use mathlib.Core.Path.{_≡_, refl, ap, _∙_}
 use mathlib.Core.Bool.{true}
 use mathlib.Core.List.{List, [], _∷_, map}
 use lib.ListN.{length-replicate}
+use borrow.Author.Tests.{eq-eqb}
 use Rattle.blocks.specs.Blocks.{has, pack, setOf, some, seek}
 use Rattle.cells.specs.Cells.{programmed, erased}
 use Rattle.geometry.specs.declared.Part.the-variants.{Small}
@@ -28,7 +30,7 @@ use Rattle.timetable.specs.Timetable.{Told, tells, Moment, cells, found,
 
 are-whole : isWhole Small cells ≡ true
 unfolding unitOf
-are-whole = rw (length-replicate 16384 0xFFFF)
+are-whole = eq-eqb _ _ (length-replicate {A = ℕ} 16384 0xFFFF)
 
 abbrev quickFound : Moment → Told
 quickFound m = tells (quickRun Small (m .from) cells true (m .events) .device)
