@@ -1,8 +1,8 @@
 -- What `k5l_until_end`, `k5l_until_change` with its block and word, and `k5l_debris_needed` tell of a record comes so.
-use Prim.Native.Nat.{ℕ, suc, _+_, _-_, _*_, _^_, _<_, _≤_}
+use Prim.Native.Nat.{ℕ, suc, _+_, _-_, _*_, _<_}
 use mathlib.Core.Path.{_≡_, refl, sym, ap, _∙_}
 use mathlib.Core.Bool.{true, false}
-use mathlib.Core.List.{List, []}
+use mathlib.Core.List.{List}
 use native.Mathlib.Omega.{arith}
 use lib.Dec.{eqb, leb, lit<, lit≤}
 use borrow.Author.Tests.{lt-leb, eq-eqb, ne-eqb}

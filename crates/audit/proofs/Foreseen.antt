@@ -1,8 +1,7 @@
 -- What `machine::until_end`, `until_change` and `debris_needed` tell of a record comes so.
-use Prim.Native.Nat.{ℕ, _+_, _-_, _*_, _<_, _≤_}
+use Prim.Native.Nat.{ℕ, _+_, _-_, _≤_}
 use mathlib.Core.Path.{_≡_, refl, sym, ap, _∙_}
 use mathlib.Core.Bool.{Bool, true, false, cond}
-use mathlib.Core.List.{List}
 use native.Mathlib.Nat.{mul-le-mul-left}
 use native.Mathlib.Omega.{arith}
 use lib.Dec.{ltb, leb, lit≤}
@@ -12,7 +11,7 @@ use Rattle.geometry.specs.declared.Part.{Part}
 use Rattle.geometry.specs.declared.Part.the-variants.{Small, Full}
 use Rattle.geometry.specs.Parts.{unitOf, sizeIn, sizeOf, wordCount}
 use Rattle.plain.specs.declared.Refusal.{Refusal}
-use Rattle.plain.specs.declared.Refusal.the-variants.{Done, State, Cells, Clock, Debris}
+use Rattle.plain.specs.declared.Refusal.the-variants.{Done, State, Cells, Clock}
 use Rattle.plain.specs.declared.BegunProgram.{BegunProgram}
 use Rattle.plain.specs.declared.BegunProgram.the-variants.{NoProgram, Writes}
 use Rattle.plain.specs.declared.Place.{Place}
@@ -24,7 +23,7 @@ use Rattle.plain.specs.Cut.{begunBlock, begunProgram, blockDebris, programDebri
 use Rattle.plain.specs.Events.{read, wait}
 use Rattle.plain.specs.Figures.{clockLimit}
 use Rattle.plain.specs.Lent.{Lent}
-use Rattle.plain.specs.Machine.{Outcome, refused, Fit, now, waited, readEvent, waitEvent, cutEvent, step}
+use Rattle.plain.specs.Machine.{Outcome, refused, Fit, now, waited, readEvent, waitEvent, step}
 use Rattle.plain.specs.Operations.{runningOf}
 use Rattle.plain.specs.Programs.{debrisWords}
 use Rattle.plain.specs.Record.{device}
@@ -35,7 +34,7 @@ use Rattle.plain.proofs.EventLaws.{read-address, read-passes, wait-barred, wait
 use Rattle.plain.proofs.Facts.{sound-operation}
 use Rattle.plain.proofs.Ladder.{entry-state, entry-cells, by-entry}
 use Rattle.plain.proofs.Ticks.{ticks-add}
-use Rattle.plain.proofs.Tools.{by-cases, by-order, clash}
+use Rattle.plain.proofs.Tools.{by-cases, by-order}
 use Rattle.history.proofs.Kept.{step-sound}
 use Rattle.remaining.specs.declared.Change.{Change}
 use Rattle.remaining.specs.Remaining.{Fits, untilEnd, changeOf}
@@ -43,7 +42,6 @@ use Rattle.foretold.specs.Foretold.{comeBy, comesAt, Unchanged, Changed}
 use Rattle.foretold.proofs.Ends.{ends-then}
 use Rattle.foretold.proofs.Drifts.{unchanged-till}
 use Rattle.foretold.proofs.Lands.{changed-then}
-use Rattle.judged.specs.declared.foreseen.Figure.{Figure}
 use Rattle.judged.specs.declared.foreseen.Figure.the-variants.{Unknown, Known}
 use Rattle.judged.specs.Foreseen.{endNow, changeNow, debrisNow}
 use Rattle.asked.specs.Foreseen.{figureNumber}
