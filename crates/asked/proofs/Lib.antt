@@ -1,2 +1,1 @@
 pub mod Idle
-pub mod IdleForeseen

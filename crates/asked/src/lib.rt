@@ -1,12 +1,8 @@
-// What C asks of a record besides its four events, and of the blocks of a part. An idle device is asked by a way of its own, as
-// the most common case.
+// What C asks of a record besides its four events. An idle device is asked by a way of its own, as the most common case.
 ghost use mathlib.Core.Path.{_≡_};
-ghost use Rattle.face.specs.Face.{standsSound, placeNumber, faceClock, faceCharge, faceFirstWord, faceBlockWords};
+ghost use Rattle.face.specs.Face.{standsSound, placeNumber, faceClock, faceCharge};
 ghost use Rattle.asked.specs.Asked.{faceExposedBlock, faceExposedWord, faceReadsCells};
 use plain::Place;
-
-pub mod addresses;
-pub mod foreseen;
 
 // No block, no word, no clock, no charge.
 const NONE: u64 = 0xffffffffffffffff;
@@ -126,22 +122,4 @@ pub fn charge(part: u64, words: &[u64]) -> u64
         return NONE;
     }
     image::meter_of(words).charge
-}
-
-pub fn first_word(part: u64, block: usize) -> usize
-    ensures { λ r. ⌜ r ≡ faceFirstWord part block ⌝ }
-{
-    if !calls::is_part(part) {
-        return 0;
-    }
-    calls::part_named(part).first_of(block)
-}
-
-pub fn block_words(part: u64, block: usize) -> usize
-    ensures { λ r. ⌜ r ≡ faceBlockWords part block ⌝ }
-{
-    if !calls::is_part(part) {
-        return 0;
-    }
-    calls::part_named(part).size_of(block)
 }

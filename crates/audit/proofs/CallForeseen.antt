@@ -41,7 +41,7 @@ use Rattle.layout.specs.Promises.{Fits}
 use Rattle.layout.proofs.Round.{round}
 use Rattle.judged.specs.Foreseen.{endNow, changeNow, debrisNow}
 use Rattle.face.specs.Face.{Faced, isPart, partNamed, stands, standsSound, shown, none}
-use Rattle.asked.specs.Foreseen.{figureNumber, changeTime, changeBlock, changeWord, faceUntilEnd, faceUntilChange, faceChangingBlock, faceChangingWord, faceDebrisNeeded}
+use Rattle.outlook.specs.Foreseen.{figureNumber, changeTime, changeBlock, changeWord, faceUntilEnd, faceUntilChange, faceChangingBlock, faceChangingWord, faceDebrisNeeded}
 use Rattle.audit.specs.Called.{Called}
 use Rattle.audit.specs.CallForeseen.{runsIn, ToldCalls, EndForeseenCalls, EndNearsCalls, AsBeforeCalls, JustChangedCalls, ChangeForeseenCalls, DebrisForeseenCalls}
 use Rattle.audit.proofs.Data.{Brief, short-fits, image-short, step-short}

@@ -44,7 +44,7 @@ use Rattle.foretold.proofs.Drifts.{unchanged-till}
 use Rattle.foretold.proofs.Lands.{changed-then}
 use Rattle.judged.specs.declared.foreseen.Figure.the-variants.{Unknown, Known}
 use Rattle.judged.specs.Foreseen.{endNow, changeNow, debrisNow}
-use Rattle.asked.specs.Foreseen.{figureNumber}
+use Rattle.outlook.specs.Foreseen.{figureNumber}
 use Rattle.audit.specs.Performed.{Allowed}
 use Rattle.audit.specs.Foreseen.{EndForeseen, EndNears, AsBefore, JustChanged, ChangeForeseen, mostDebris, DebrisForeseen}
 use Rattle.audit.proofs.Same.{Is, allowed-is}

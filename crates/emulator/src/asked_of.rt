@@ -49,12 +49,12 @@ pub extern "C" fn k5l_charge(part: u64, words: &[u64]) -> u64
 pub extern "C" fn k5l_first_word(part: u64, block: usize) -> usize
     ensures { λ r. ⌜ r ≡ faceFirstWord part block ⌝ }
 {
-    asked::first_word(part, block)
+    lookups::first_word(part, block)
 }
 
 #[no_mangle]
 pub extern "C" fn k5l_block_words(part: u64, block: usize) -> usize
     ensures { λ r. ⌜ r ≡ faceBlockWords part block ⌝ }
 {
-    asked::block_words(part, block)
+    lookups::block_words(part, block)
 }

@@ -25,7 +25,7 @@ use Rattle.plain.proofs.Quick.{quickTicks, quickLadder, quickStep, quickRun, qu
 use Rattle.plain.proofs.QuickSound.{someAt, someOf, quickOnly, quickList, quickChipList, quickOperation, quickSound, quickEntry}
 use Rattle.remaining.specs.Remaining.{changeOf, counted, toCome, untilEnd}
 use Rattle.judged.specs.Foreseen.{endNow, changeNow, debrisNow}
-use Rattle.asked.specs.Foreseen.{figureNumber, changeTime, changeBlock, changeWord}
+use Rattle.outlook.specs.Foreseen.{figureNumber, changeTime, changeBlock, changeWord}
 use Rattle.timetable.specs.Timetable.{Told, tells, Moment, cells, found, chip, erase, unsound, AsForeseen}
 
 are-whole : isWhole Small cells ≡ true

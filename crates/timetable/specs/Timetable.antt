@@ -11,7 +11,7 @@ use Rattle.plain.specs.Machine.{run}
 use Rattle.plain.specs.Rows.{metered, programOf, eraseOf, chipEraseOf}
 use Rattle.judged.specs.Foreseen.{endNow, changeNow, debrisNow}
 use Rattle.face.specs.Face.{none}
-use Rattle.asked.specs.Foreseen.{figureNumber, changeTime, changeBlock, changeWord}
+use Rattle.outlook.specs.Foreseen.{figureNumber, changeTime, changeBlock, changeWord}
 
 -- until nothing runs; until the next change, the block and the word that it finishes; the words that a cut would need
 pub record Told : Type 0 where
