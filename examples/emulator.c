@@ -1,6 +1,6 @@
 /*
  * A small emulator around the flash chip, to start your own from: a bus that lets time pass, a flash driver as a boot loader
- * has it, a scheduler that knows when to wake it, and a battery that fails in the middle of an erase. It uses the small part:
+ * has it, a scheduler that knows when to wake it, an updater that forgets an erase, and a battery that fails. It uses the small part:
  * 16,384 words, blocks of 64.
  */
 #include "k5l2931cam.h"
@@ -108,11 +108,22 @@ static void wait_for_erase(uint64_t address)
     printf("  erased after %u polls, at %" PRIu64 " us\n", polls, k5l_device_clock(&chip));
 }
 
+/* A program clears bits and sets none: for a 1 where the word has a 0 the block has to be erased first. The chip refuses such a
+ * program (RAISE), and then nothing runs that a driver could poll. */
+static bool can_program(uint64_t address, uint16_t word)
+{
+    return (bus_read(address) & word) == word;
+}
+
 /* DQ7 is the complement of the data's until the word is programmed. */
 static void program(uint64_t address, uint16_t word)
 {
     unsigned polls = 1;
 
+    if (!can_program(address, word)) {
+        printf("  %" PRIu64 " cannot become %04X: its block needs an erase first\n", address, word);
+        return;
+    }
     command(0xA0);
     bus_write(address, word);
     while ((bus_read(address) ^ word) & DQ7)
@@ -129,6 +140,20 @@ static void erase_and_program(void)
     program(64, 0x1234);
     program(65, 0xBEEF);
     program(66, 0x00FF);
+}
+
+/* What an updater meets that forgets the erase. */
+static void program_again(void)
+{
+    printf("ask word 64 for 00FF, without a look at it:\n");
+    command(0xA0);
+    bus_write(64, 0x00FF);
+    printf("  word 64 is %04X still\n", bus_read(64));
+    printf("the same with a look, and after an erase:\n");
+    program(64, 0x00FF);
+    start_erase(64);
+    wait_for_erase(64);
+    program(64, 0x00FF);
 }
 
 static void suspend_and_resume(void)
@@ -172,6 +197,7 @@ int main(void)
 {
     log_refusal("fresh", 0, k5l_device_fresh(&chip, K5L_SMALL, cells, K5L_SMALL_WORDS));
     erase_and_program();
+    program_again();
     suspend_and_resume();
     printf("erase block 10, at 192, suspend it, start a program at 68, and lose power:\n");
     start_erase(192);

@@ -20,9 +20,9 @@
 #include <stddef.h>
 #include <stdint.h>
 
-#define K5L_VERSION "1.0.0"
+#define K5L_VERSION "1.1.0"
 #define K5L_VERSION_MAJOR 1
-#define K5L_VERSION_MINOR 0
+#define K5L_VERSION_MINOR 1
 #define K5L_VERSION_PATCH 0
 
 /* On calls whose answer is a refusal that no program should drop. A read is not among them: a bus cycle whose word nobody wants
@@ -37,8 +37,8 @@
 extern "C" {
 #endif
 
-/* Refusals: how an event is answered. But for DONE, SEQUENCE, PROTECTED, SUSPENDED and LOCKED nothing changes; the latter
- * four bring the command register back to ground (in the erase window PROTECTED changes nothing, SEQUENCE drops the list). */
+/* Refusals: how an event is answered. But for DONE, SEQUENCE, PROTECTED, SUSPENDED, LOCKED and RAISE nothing changes; the latter
+ * five bring the command register back to ground (in the erase window PROTECTED changes nothing, SEQUENCE drops the list). */
 enum {
     K5L_DONE = 0,       /* taken */
     K5L_STATE = 1,      /* the record is not sound, or not of K5L_RECORD_WORDS words, or there is no such part */
@@ -51,9 +51,15 @@ enum {
     K5L_BANK = 8,       /* a further erase block in another bank */
     K5L_PROTECTED = 9,  /* the block is protected; for a chip erase, every block is */
     K5L_SUSPENDED = 10, /* a command that is not allowed in suspension */
-    K5L_LOCKED = 11     /* a PPB change with the PPB lock bit set */
-    /* 12 is unused, and stays so: no call gives it. */
+    K5L_LOCKED = 11,    /* a PPB change with the PPB lock bit set */
+    /* 12 is unused, and stays so: no call gives it. 13 is unused so far. */
+    K5L_RAISE = 14      /* a program whose data has a 1 where its word has a 0: erase the block first */
 };
+
+/* A program only ever clears bits: it leaves old AND data. Where that would not be the data, the write of the data is K5L_RAISE, after
+ * K5L_PROTECTED and K5L_SUSPENDED: no program starts, no status is there to poll, a suspension stands, and no cell, time or charge
+ * moves. Erase the block and program it anew; (cells[address] & word) == word tells before whether a program can work. So a program
+ * that was taken and ran its time has left exactly its data. It is judged once, at that write, by the cells lent with it. */
 
 /* The parts. */
 enum {
@@ -116,7 +122,8 @@ bool k5l_sound(uint64_t part, const uint64_t *record, size_t words);
  * refused read gives the word 0. Status reads toggle bits in the record. */
 uint64_t k5l_read(uint64_t part, uint64_t *record, size_t words, const uint16_t *cells, size_t length, uint64_t address);
 
-/* A bus write: the refusal. It changes no cell: cells change as operations finish, in k5l_wait. */
+/* A bus write: the refusal. It changes no cell: cells change as operations finish, in k5l_wait. Of the cells it reads the one word that
+ * a program's data is for. */
 uint64_t k5l_write(uint64_t part, uint64_t *record, size_t words, const uint16_t *cells, size_t length, uint64_t address,
                    uint16_t word) K5L_MUST_USE;
 
@@ -197,6 +204,7 @@ static inline const char *k5l_refusal_name(uint64_t refusal)
     case K5L_PROTECTED: return "PROTECTED";
     case K5L_SUSPENDED: return "SUSPENDED";
     case K5L_LOCKED: return "LOCKED";
+    case K5L_RAISE: return "RAISE";
     default: return "?";
     }
 }

@@ -12,7 +12,7 @@ function follow_fresh(    b) {
 function kind(refusal) {
     if (refusal == "DONE") return "taken"
     if (refusal == "SEQUENCE") return "lost"
-    return refusal == "PROTECTED" || refusal == "SUSPENDED" || refusal == "LOCKED" ? "dropped" : "unheard"
+    return refusal == "PROTECTED" || refusal == "SUSPENDED" || refusal == "LOCKED" || refusal == "RAISE" ? "dropped" : "unheard"
 }
 
 # ---- writes

@@ -54,7 +54,7 @@ function full_time(state) {
 
 # ---- writes
 
-# Every clause of Commands.antt that starts something, by its left side.
+# Every clause of Commands.antt that starts something, by its left side; a program by the clauses of `begins`.
 function read_starts(    file, i, s, name) {
     file = commands
     load(file)
@@ -64,7 +64,8 @@ function read_starts(    file, i, s, name) {
         name = substr(s, 1, index(s " ", " = ") - 1)
         s = substr(s, length(name) + 3)
         while (line[file, i + 1] ~ /^ /) s = s " " trimmed(line[file, ++i])
-        if (match(s, /Starts \(/)) started[name] = target(substr(s, RSTART + 8))
+        if (name ~ /^begins /) started[name] = target(trimmed(s))
+        else if (match(s, /Starts \(/) && s !~ /Starts \(begins /) started[name] = target(substr(s, RSTART + 8))
         if (s ~ / Drops$/) started[name " drops"] = "Idle"
     }
 }
@@ -88,24 +89,28 @@ function codes() {
 
 function read_writes(    c) {
     read_starts(); codes()
-    wrote_arrow("Idle", "Programming", "A0H, then address and data", "begins p Unsuspended d", \
-        "written p bits Idle c a w = entered p bits Unsuspended c a w")
+    rests_on(commands, "else Starts (begins s (started p (writing a w)))")
+    wrote_arrow("Idle", "Programming", "A0H, then address and data", "begins Unsuspended q", \
+        "written p bits Idle c l a w = entered p bits Unsuspended c l a w")
+    # A suspended program lets none begin, so that clause draws nothing.
+    rests_on(commands, "keepsOut p (OfProgram q) d = true")
+    used["begins (OfProgram resting) q"] = 1
     c = "else if is w 0x80 then unless (isSuspended s) (Goes (Entering EraseSetup))"
     wrote_arrow("Idle", "Window", "80H, then 30H in a block", "blockErase p bits b", c)
     wrote_arrow("Idle", "ChipErasing", "80H, then 10H", "chipErase p bits", c)
     wrote_arrow("ProgramSuspended", "Programming", "30H", "resumes (OfProgram q)", \
-        "written p bits (ProgramSuspended q) c a w = entered p bits (OfProgram q) c a w")
-    c = "written p bits (EraseSuspended s) c a w = inSuspendedErase (s .inside) (entered p bits (OfErase (s .erase)) c a w)"
+        "written p bits (ProgramSuspended q) c l a w = entered p bits (OfProgram q) c l a w")
+    c = "written p bits (EraseSuspended s) c l a w = inSuspendedErase (s .inside) (entered p bits (OfErase (s .erase)) c l a w)"
     wrote_arrow("EraseSuspended Nothing", "Erasing", "30H", "resumes (OfErase e)", c)
     wrote_arrow("EraseSuspended Nothing", "EraseSuspended Runs", "A0H, then address and data off the list", \
-        "begins p (OfErase e) d", c)
+        "begins (OfErase e) q", c)
     wrote_arrow("Window", "Window", "30H adds a block: " full_time("Window") " " micro " again", "addBlock p bits e a", \
         "if is w 0x30 then addBlock p bits e a")
-    c = "written p bits (Window e) c a w = inWindow p bits e a w"
+    c = "written p bits (Window e) c l a w = inWindow p bits e a w"
     wrote_arrow("Window", "EraseSuspended Nothing", "B0H", "inWindow p bits e a w", c)
     rests_on(commands, "effected r Drops = answer Sequence 0 (device (r .meter) Ground Idle (r .bits))")
     wrote_arrow("Window", "Idle", "any other write: SEQUENCE", "inWindow p bits e a w drops", c)
-    wrote_arrow("Erasing", "EraseSuspended Nothing", "B0H", "inErase e w", "written p bits (Erasing e) c a w = inErase e w")
+    wrote_arrow("Erasing", "EraseSuspended Nothing", "B0H", "inErase e w", "written p bits (Erasing e) c l a w = inErase e w")
     for (c in started) if (!(c in used)) die(commands ": `" c "` starts " started[c] ", which pictures/operation.awk does not draw")
 }
 

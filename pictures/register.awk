@@ -52,21 +52,22 @@ function comes_to(state, cause, s,    p, n, t) {
     else if (p[1] == "unless") { proviso = test_words(p[2]); comes_to(state, cause, p[3]); proviso = "" }
     else if (p[1] == "Falls") falls[state, p[2]] = 1
     else if (p[1] == "Goes") goes(state, cause, bare(p[2]))
-    else if (p[1] == "Protects") leaf(state, cause, p[2])
+    else if (p[1] == "Protects" || p[1] == "Starts") leaf(state, cause, p[2])
     else if (p[1] == "unlessLocked") { proviso = "LOCKED if the PPB lock bit is set"; leaf(state, cause, p[3]); proviso = "" }
     else leaf(state, cause, s)
 }
 
-# `if TEST then A else B`: a test that only refuses another address or a protected block is told with what follows.
+# `if TEST then A else B`: a test that only refuses another address, a protected block or a program is told with what follows.
 function choice(state, cause, s,    p, q, test, then, other) {
     if (parts_of(s, "else", q) < 2 || parts_of(q[1], "then", p) != 2) die("the choice `" s "` cannot be read")
     other = substr(s, length(q[1]) + 7)
     test = bare(substr(p[1], 4)); then = p[2]
     if (test ~ /^not / && then == "Falls Sequence") prefix[state] = test_words(substr(test, 5)) "/"
     else if (test ~ /^protected / && then == "Falls Protected") proviso = "PROTECTED if the block is"
+    else if (test ~ /^(keepsOut|raises) / && then ~ /^Falls [A-Z][a-z]*$/) also = also (also == "" ? "or " : ", ") toupper(substr(then, 7))
     else comes_to(state, prefix[state] test_words(test), then)
     comes_to(state, cause, other)
-    proviso = ""
+    proviso = also = ""
 }
 
 function goes(state, cause, s,    p) {
@@ -83,7 +84,7 @@ function leaf(state, cause, s,    p) {
     parts_of(bare(s), "", p)
     if (!(p[1] in outcome)) die("the effect `" s "` of Commands.antt has no words here")
     edge(state, cause, "= " outcome[p[1]])
-    or_refused[outcome[p[1]]] = refusals_of(p[1])
+    or_refused[outcome[p[1]]] = also == "" ? refusals_of(p[1]) : also
 }
 
 # The refusals that a starting function of Commands.antt may give instead.

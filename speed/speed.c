@@ -19,7 +19,7 @@
 #include <time.h>
 
 /* Block 39 is the first of bank 1B's 96. */
-enum { BLOCK_AT = 1048576, BLOCK_WORDS = 32768, BANK_BLOCKS = 96, OTHER_BANK_AT = 100 };
+enum { BLOCK_AT = 1048576, BLOCK_WORDS = 32768, BANK_BLOCKS = 96, OTHER_BANK_AT = 100, BLANK_AT = 101 };
 
 static uint16_t *cells, debris[BLOCK_WORDS];
 
@@ -85,7 +85,7 @@ static void model_side_read(uint64_t address)
 }
 static void model_side_write(uint64_t address, uint16_t word)
 {
-    answer = model_write(MODEL_FULL, &record, K5L_FULL_WORDS, address, word);
+    answer = model_write(MODEL_FULL, &record, cells, K5L_FULL_WORDS, address, word);
 }
 static void model_side_wait(uint64_t microseconds)
 {
@@ -120,7 +120,8 @@ static void prepare_idle(const struct side *side) { (void)side; }
 static void write_1(const struct side *side) { side->write(0x555, 0xAA); }
 static void write_2(const struct side *side) { side->write(0x2AA, 0x55); }
 static void write_3(const struct side *side) { side->write(0x555, 0xA0); }
-static void write_4(const struct side *side) { side->write(OTHER_BANK_AT, 0x1234); }
+static void write_4(const struct side *side) { side->write(BLANK_AT, 0x1234); }
+static void write_4_raise(const struct side *side) { side->write(OTHER_BANK_AT, 0x1234); }
 
 /* A program half entered: so many of its writes taken. */
 static void prepare_1(const struct side *side) { write_1(side); }
@@ -206,6 +207,7 @@ static const struct kind {
     { "program-write-2-restored", 300000, K5L_DONE, true, prepare_1, write_2 },
     { "program-write-3-restored", 300000, K5L_DONE, true, prepare_2, write_3 },
     { "program-write-4-restored", 300000, K5L_DONE, true, prepare_3, write_4 },
+    { "program-write-4-raise-restored", 300000, K5L_RAISE, true, prepare_3, write_4_raise },
     { "program-four-writes-restored", 100000, K5L_DONE, true, prepare_idle, write_program },
     { "wait-1us-idle-restored", 300000, K5L_DONE, true, prepare_idle, wait_1 },
     { "wait-1e13us-idle-restored", 300000, K5L_DONE, true, prepare_idle, wait_long },
@@ -256,6 +258,7 @@ static int measure(const struct kind *kind, const struct side *side, unsigned lo
     cells = calloc(K5L_FULL_WORDS, sizeof *cells);
     if (cells == NULL || events == 0 || k5l_fresh(image, K5L_RECORD_WORDS) != K5L_DONE)
         return 2;
+    cells[BLANK_AT] = 0xFFFF; /* all others are 0, and take no program */
     record = model_fresh();
     kind->prepare(side);
     memcpy(image_before, image, sizeof image);

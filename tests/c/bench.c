@@ -3,7 +3,7 @@
 
 #include <string.h>
 
-/* Rows b to d: a program, and its cuts. */
+/* Rows b to d: a program, and its cuts; row c as document 02, request 6, has it. */
 static void programs(void)
 {
     static const uint16_t debris[] = { 0xFF00, 0x0000 }, left[] = { 0xFF34, 0x1234 };
@@ -17,7 +17,10 @@ static void programs(void)
     SAME(bus_read(3000), 0xFFFF);
     SAME(pass(1), K5L_DONE);
     SAME(bus_read(100), 0x1234);
-    SAME(program(100, 0x00FF), K5L_DONE);
+    SAME(enter(0xA0), K5L_DONE);
+    SAME(bus_write(100, 0x00FF), K5L_RAISE);
+    SAME(bus_read(100), 0x1234);
+    SAME(program(100, 0x0034), K5L_DONE);
     SAME(pass(6), K5L_DONE);
     SAME(bus_read(100), 0x0034);
     for (int i = 0; i < 2; i++) {

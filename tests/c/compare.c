@@ -14,7 +14,7 @@
 #include <stdlib.h>
 #include <string.h>
 
-enum { REFUSALS = K5L_LOCKED + 1, LONGEST_PLAN = 4 * K5L_BLOCKS + 6 };
+enum { REFUSALS = K5L_RAISE + 1, LONGEST_PLAN = 4 * K5L_BLOCKS + 6 };
 
 /* What is still to be written, address and word: a plan is a command, or several. A calm plan is gone through without a
  * fault. */
@@ -114,6 +114,19 @@ static void plan_ppb(const struct pair *pair, bool set)
     add(once_in(8) ? some_address(pair) : address, set ? 0x48 : 0x40);
 }
 
+/* Data for a word: mostly such as it can take, at times what it holds, a bit more, or anything. */
+static uint16_t some_data(const struct pair *pair, uint64_t address)
+{
+    uint16_t old = address < pair->length ? pair->cells[address] : 0;
+
+    switch (below(6)) {
+    case 0: return (uint16_t)dice();
+    case 1: return old;
+    case 2: return (uint16_t)(old | 1u << below(16));
+    default: return old & (uint16_t)dice();
+    }
+}
+
 /* The next command, or commands. */
 static void make_plan(const struct pair *pair)
 {
@@ -126,7 +139,7 @@ static void make_plan(const struct pair *pair)
         plan_short_chip_erase(pair);
     else if (kind < 18 || (pair->image[5] == MODEL_SUSPENDED_ERASE && !once_in(3))) {
         add_command(pair, 0xA0);
-        add(address, (uint16_t)dice());
+        add(address, some_data(pair, address));
     } else if (kind < 33)
         plan_erase(pair, kind == 32);
     else if (kind < 38) {
@@ -277,10 +290,10 @@ int main(int count, char **arguments)
         printf(" %lu", operations[i]);
         HOLDS(operations[i] > 0);
     }
-    printf("\ncompare: answers 0 to 11:");
+    printf("\ncompare: answers 0 to 14:");
     for (int i = 0; i < REFUSALS; i++) {
         printf(" %lu", refusals[i]);
-        HOLDS(refusals[i] > 0);
+        SAME(refusals[i] > 0, i != 12 && i != 13);
     }
     printf("\n");
     return check_report("compare");

@@ -130,7 +130,7 @@ static void programs(void)
 {
     used();
     expect_nothing();
-    SAME(program(100, 0x00F0), K5L_DONE);
+    SAME(program(100, cells[100] & 0x00F0), K5L_DONE);
     expect(6, 6, K5L_NONE, 100);
     follow();
     used();
@@ -138,7 +138,7 @@ static void programs(void)
     SAME(pass(60), K5L_DONE);
     SAME(bus_write(0, 0xB0), K5L_DONE);
     expect_nothing();
-    SAME(program(2048, 0x0F0E), K5L_DONE);
+    SAME(program(2048, cells[2048] & 0x0F0E), K5L_DONE);
     expect(6, 6, K5L_NONE, 2048);
     follow();
     SAME(record[OPERATION], SUSPENDED_ERASE);

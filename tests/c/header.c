@@ -35,7 +35,7 @@ static void numbers(void)
 static void names(void)
 {
     static const char *const expected[] = { "DONE", "STATE", "CELLS", "ADDRESS", "CLOCK", "DEBRIS", "BUSY", "SEQUENCE", "BANK",
-                                            "PROTECTED", "SUSPENDED", "LOCKED", "?" };
+                                            "PROTECTED", "SUSPENDED", "LOCKED", "?", "?", "RAISE", "?" };
 
     for (unsigned i = 0; i < sizeof expected / sizeof *expected; i++)
         SAME(strcmp(k5l_refusal_name(i), expected[i]), 0);
@@ -104,12 +104,15 @@ static void command_both(uint16_t third)
     write_both(0x555, third);
 }
 
-/* An erase, suspended, with a program inside, and a cut: every question has an answer that is not none, and one that is. */
+/* A program that cannot work; an erase, suspended, with a program inside, and a cut: every question has an answer that is not none, and one that is. */
 static void in_one_piece(void)
 {
     SAME(k5l_device_fresh(&whole, K5L_SMALL, whole_cells, K5L_SMALL_WORDS), K5L_DONE);
     SAME(k5l_fresh(record, K5L_RECORD_WORDS), K5L_DONE);
+    cells[2048] = whole_cells[2048] = 0xFFFF;
     same_devices();
+    command_both(0xA0);
+    write_both(2049, 0x1234);
     command_both(0x80);
     write_both(0x555, 0xAA);
     write_both(0x2AA, 0x55);

@@ -132,12 +132,15 @@ static uint64_t write_while_running(struct model_record *record, unsigned data)
     return MODEL_DONE;
 }
 
-static uint64_t start_program(struct model_record *record, uint64_t address, uint64_t block, uint16_t word)
+/* `old` is the word as it is lent: a bit of the data that it does not have is refused last (document 02, request 6). */
+static uint64_t start_program(struct model_record *record, uint64_t address, uint64_t block, uint16_t old, uint16_t word)
 {
     if (model_is_protected(record, block))
         return enter(record, MODEL_GROUND, MODEL_PROTECTED);
     if (record->operation == MODEL_SUSPENDED_ERASE && model_has(&record->erase.list, block))
         return enter(record, MODEL_GROUND, MODEL_SUSPENDED);
+    if ((word & ~old) != 0)
+        return enter(record, MODEL_GROUND, MODEL_RAISE);
     record->operation = record->operation == MODEL_SUSPENDED_ERASE ? MODEL_PROGRAM_INSIDE : MODEL_PROGRAM;
     record->program = (struct model_program){ .at = address, .left = MODEL_PROGRAM_TIME, .word = word };
     return enter(record, MODEL_GROUND, MODEL_DONE);
@@ -211,13 +214,13 @@ static uint64_t write_first(struct model_record *record, bool unlocks, unsigned 
 }
 
 /* Document 01, Command cycles: addresses are compared on 11 bits, data on 8; the two data cycles come before F0H. */
-static uint64_t write_command(struct model_record *record, uint64_t address, uint64_t block, uint16_t word)
+static uint64_t write_command(struct model_record *record, uint64_t address, uint64_t block, uint16_t old, uint16_t word)
 {
     unsigned data = word & 0xFF, at = address & 0x7FF;
     bool first = at == 0x555 && data == 0xAA, second = at == 0x2AA && data == 0x55;
 
     if (record->command == MODEL_PROGRAM_DATA)
-        return start_program(record, address, block, word);
+        return start_program(record, address, block, old, word);
     if (record->command == MODEL_DYB_DATA) {
         if ((data & 0x0F) <= 1)
             model_put(&record->dyb, block, data & 1);
@@ -244,7 +247,8 @@ static uint64_t write_command(struct model_record *record, uint64_t address, uin
     }
 }
 
-uint64_t model_write(uint64_t part, struct model_record *record, size_t length, uint64_t address, uint16_t word)
+uint64_t model_write(uint64_t part, struct model_record *record, const uint16_t *cells, size_t length, uint64_t address,
+                     uint16_t word)
 {
     uint64_t refusal = judge(part, record, length), block;
 
@@ -255,7 +259,7 @@ uint64_t model_write(uint64_t part, struct model_record *record, size_t length, 
         return write_in_window(record, block, word & 0xFF);
     if (model_program_runs(record) || model_erase_runs(record))
         return write_while_running(record, word & 0xFF);
-    return write_command(record, address, block, word);
+    return write_command(record, address, block, cells[address], word);
 }
 
 /* Both let time pass for what runs, and give the microseconds that it ran. */

@@ -12,10 +12,11 @@
 #include <stddef.h>
 #include <stdint.h>
 
-/* Document 01, Refusals by number. 12 is unused: a record with an operation in a protected block is STATE. */
+/* Document 01, Refusals by number, and document 02. 12 is unused: a record with an operation in a protected block is STATE; so is 13. */
 enum model_refusal {
     MODEL_DONE, MODEL_STATE, MODEL_CELLS, MODEL_ADDRESS, MODEL_CLOCK, MODEL_DEBRIS, MODEL_BUSY, MODEL_SEQUENCE, MODEL_BANK,
-    MODEL_PROTECTED, MODEL_SUSPENDED, MODEL_LOCKED
+    MODEL_PROTECTED, MODEL_SUSPENDED, MODEL_LOCKED,
+    MODEL_RAISE = 14
 };
 
 enum model_part { MODEL_SMALL, MODEL_FULL };
@@ -88,10 +89,11 @@ struct model_answer {
 struct model_record model_fresh(void);
 bool model_sound(uint64_t part, const struct model_record *record);
 
-/* The four events. A write touches no cell and is lent their number only. */
+/* The four events. A write changes no cell. */
 struct model_answer model_read(uint64_t part, struct model_record *record, const uint16_t *cells, size_t length,
                                uint64_t address);
-uint64_t model_write(uint64_t part, struct model_record *record, size_t length, uint64_t address, uint16_t word);
+uint64_t model_write(uint64_t part, struct model_record *record, const uint16_t *cells, size_t length, uint64_t address,
+                     uint16_t word);
 uint64_t model_wait(uint64_t part, struct model_record *record, uint16_t *cells, size_t length, uint64_t microseconds);
 uint64_t model_cut(uint64_t part, struct model_record *record, uint16_t *cells, size_t length, const uint16_t *debris,
                    size_t debris_length);

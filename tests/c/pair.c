@@ -61,7 +61,7 @@ static uint64_t of_model(const struct pair *p, struct model_record *record, cons
     case EVENT_READ:
         answer = model_read(p->part, record, p->model_cells, p->length, event->number);
         return answer.refusal << 16 | answer.word;
-    case EVENT_WRITE: return model_write(p->part, record, p->length, event->number, event->word) << 16;
+    case EVENT_WRITE: return model_write(p->part, record, p->model_cells, p->length, event->number, event->word) << 16;
     case EVENT_WAIT: return model_wait(p->part, record, p->model_cells, p->length, event->number) << 16;
     default: return model_cut(p->part, record, p->model_cells, p->length, event->debris, event->debris_length) << 16;
     }

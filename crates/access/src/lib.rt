@@ -2,7 +2,7 @@
 // the record, or the words of one.
 ghost use mathlib.Core.Path.{_≡_};
 ghost use Rattle.plain.specs.Commands.{effected};
-ghost use Rattle.plain.specs.Lent.{Lent, lent};
+ghost use Rattle.plain.specs.Lent.{lent};
 ghost use Rattle.plain.specs.Machine.{Fit, readEvent, writeEvent};
 ghost use Rattle.access.specs.Sights.{sighted};
 use geometry::Part;
@@ -41,19 +41,20 @@ fn admitted_read(part: Part, device: Device, cells: &[u16], address: usize) -> S
     Sight::Shown(reading::look(part, bits, command, operation, cells, address))
 }
 
-// A write alters no cell: the cells are lent so that their length is judged.
+// A write alters no cell: their length is judged, and by A0H's data cycle the word that it would program.
 pub fn write(part: Part, device: Device, cells: &[u16], address: usize, word: u16) -> Effect
     ensures { λ r. ⌜ effected device r ≡ writeEvent part device (lent (now (cells .entry))) address word .answer ⌝ }
 {
     let entry = judged::entry(part, soundness::is_sound(part, device), cells);
     match entry {
         Entry::Barred(refusal) => Effect::Stays(refusal),
-        Entry::Admitted => admitted_write(part, device, address, word),
+        Entry::Admitted => admitted_write(part, device, cells, address, word),
     }
 }
 
-fn admitted_write(part: Part, device: Device, address: usize, word: u16) -> Effect
-    ensures { λ r. ⌜ ((l : Lent) → Fit part device l → effected device r ≡ writeEvent part device l address word .answer) ⌝ }
+fn admitted_write(part: Part, device: Device, cells: &[u16], address: usize, word: u16) -> Effect
+    requires { ⌜ Fit part device (lent (now cells)) ⌝ }
+    ensures { λ r. ⌜ effected device r ≡ writeEvent part device (lent (now (cells .entry))) address word .answer ⌝ }
 {
     if part.words() <= address {
         return Effect::Stays(Refusal::Address);
@@ -61,5 +62,5 @@ fn admitted_write(part: Part, device: Device, address: usize, word: u16) -> Effe
     let command = device.command;
     let operation = device.operation;
     let bits = device.bits;
-    register::written(part, bits, operation, command, address, word)
+    register::written(part, bits, operation, command, cells, address, word)
 }

@@ -63,5 +63,6 @@ pub fn number_of(refusal: Refusal) -> u64
         Refusal::Protected => 9,
         Refusal::Suspended => 10,
         Refusal::Locked => 11,
+        Refusal::Raise => 14,
     }
 }

@@ -14,7 +14,7 @@ use Rattle.plain.specs.Record.{fresh}
 use Rattle.plain.specs.Refusals.{number}
 use Rattle.plain.proofs.Data.{Short, dataOf}
 use Rattle.plain.proofs.Tools.{by-cases}
-use Rattle.history.proofs.Demand.{demand-3, holding, charge-by-history}
+use Rattle.history.proofs.Demand.{demand-3, holding, programs-leave-data, charge-by-history}
 use Rattle.history.proofs.Kept.{always-sound, never-state}
 use Rattle.history.proofs.Taken.{cut-taken, cut-not-taken}
 use Rattle.layout.specs.Image.{imageOf, deviceOf}
@@ -23,7 +23,7 @@ use Rattle.layout.specs.Promises.{Fits}
 use Rattle.layout.proofs.Round.{round}
 use Rattle.face.specs.Face.{Faced, partNamed, standsSound, faceClock, faceCharge, shown}
 use Rattle.audit.specs.Called.{Made, made, Called, Held, CallRuns}
-use Rattle.audit.specs.CallPromises.{Demand3Calls, CutTakenCalls, NeverStateCalls, HoldingCalls, ChargeCalls}
+use Rattle.audit.specs.CallPromises.{Demand3Calls, CutTakenCalls, NeverStateCalls, HoldingCalls, ProgramsLeaveDataCalls, ChargeCalls}
 use Rattle.audit.proofs.Called.{left-stands}
 use Rattle.audit.proofs.Calls.{RanAs, calls-are, on-words, same-refusal}
 use Rattle.audit.proofs.Data.{short-fits, step-short, cut-brief}
@@ -87,6 +87,10 @@ never-state-calls part start cells es ran e f runs c h =
 
 pub holding-calls : HoldingCalls
 holding-calls part start es ran runs x hx = rw (runs-are runs .same) (holding (partNamed part) (lent start) es x hx)
+
+pub programs-leave-data-calls : ProgramsLeaveDataCalls
+programs-leave-data-calls part start es ran runs x d hx last =
+    rw (runs-are runs .same) (programs-leave-data (partNamed part) (lent start) es x d hx (rw (runs-are runs .same) at last))
 
 pub charge-calls : ChargeCalls
 unfolding faceClock faceCharge

@@ -5,7 +5,7 @@ use mathlib.Core.Bool.{true}
 use mathlib.Core.List.{List, [], _∷_}
 use lib.Dec.{eqb}
 use Rattle.plain.specs.declared.Refusal.{Refusal}
-use Rattle.plain.specs.declared.Refusal.the-variants.{Done, State, Cells, Address, Clock, Debris, Busy, Sequence, Bank, Protected, Suspended, Locked}
+use Rattle.plain.specs.declared.Refusal.the-variants.{Done, State, Cells, Address, Clock, Debris, Busy, Sequence, Bank, Protected, Suspended, Locked, Raise}
 use Rattle.plain.specs.declared.Device.{Device}
 use Rattle.plain.specs.Choice.{if_then_else_}
 use Rattle.plain.specs.Events.{Event}
@@ -37,7 +37,8 @@ named n =
     else if eqb n 8 then Bank
     else if eqb n 9 then Protected
     else if eqb n 10 then Suspended
-    else Locked
+    else if eqb n 11 then Locked
+    else Raise
 
 named-number : (n : Refusal) → named (number n) ≡ n
 unfolding named number
@@ -53,6 +54,7 @@ named-number Bank = refl
 named-number Protected = refl
 named-number Suspended = refl
 named-number Locked = refl
+named-number Raise = refl
 
 pub same-refusal : (m n : Refusal) → number m ≡ number n → m ≡ n
 same-refusal m n e = sym (named-number m) ∙ ap named e ∙ named-number n

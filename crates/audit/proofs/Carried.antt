@@ -11,8 +11,8 @@ use Rattle.plain.specs.Lent.{Lent}
 use Rattle.plain.specs.Machine.{Ran, step, run}
 use Rattle.plain.specs.Promises.{Left}
 use Rattle.plain.specs.Record.{fresh}
-use Rattle.history.proofs.Demand.{demand-3, holding, charge-by-history}
-use Rattle.audit.specs.Promises.{Demand3Code, HoldingCode, ChargeCode}
+use Rattle.history.proofs.Demand.{demand-3, holding, programs-leave-data, charge-by-history}
+use Rattle.audit.specs.Promises.{Demand3Code, HoldingCode, ProgramsLeaveDataCode, ChargeCode}
 use Rattle.audit.proofs.Same.{Is, allowed-is, runs-are}
 
 -- what an answer that is the plain machine's leaves
@@ -25,6 +25,9 @@ demand-3-code p start after es debris ran y f g e = as-left p start after es deb
 
 pub holding-code : (p : Part) → HoldingCode p
 holding-code p start es ran f x hx = rw (runs-are f) (holding p start es x hx)
+
+pub programs-leave-data-code : (p : Part) → ProgramsLeaveDataCode p
+programs-leave-data-code p start es ran f x d hx last = rw (runs-are f) (programs-leave-data p start es x d hx (rw (runs-are f) at last))
 
 pub charge-code : (p : Part) → ChargeCode p
 charge-code p start es ran f = rw (runs-are f) (charge-by-history p start es)

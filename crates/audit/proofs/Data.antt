@@ -65,8 +65,9 @@ pub cut-brief : (debris : List ℕ) → Brief (cut debris)
 unfolding Brief
 cut-brief debris = tt
 
-starts-short : {p : Part} {w : ℕ} (r : Device) → w < 65536 → Short (r .operation) → (x : Operation) → Fine p (r .bits) w (r .operation) (Starts x) → Short x
-starts-short r g h x (starts _ short _) = short g h
+starts-short : {p : Part} {l : Lent} {w : ℕ} {Reason : Type 0} (r : Device) → w < 65536 → Short (r .operation) → (x : Operation)
+    → Fine p (r .bits) l w Reason (r .operation) (Starts x) → Short x
+starts-short r g h x (starts _ short _ _) = short g h
 
 pub step-short : (p : Part) (r : Device) (l : Lent) → Short (r .operation) → (e : Event) → Brief e → Short (step p r l e .answer .device .operation)
 unfolding Brief

@@ -11,6 +11,7 @@ pub mod Calls
 pub mod CallPromises
 pub mod CallAsked
 pub mod SuspendedProgram
+pub mod Raise
 pub mod Foreseen
 pub mod CallForeseen
 pub mod Replayed

@@ -8,11 +8,13 @@ use lib.ListN.{length, getD}
 use contract.Lifetimes.{Lfts}
 use Rattle.geometry.specs.Parts.{wordCount, blockOf, bankOf}
 use Rattle.plain.specs.declared.Refusal.the-variants.{Done, State, Debris}
+use Rattle.plain.specs.declared.Written.{Written}
 use Rattle.plain.specs.Cut.{debrisNeeded}
 use Rattle.plain.specs.Events.{Event, read, cut}
 use Rattle.plain.specs.History.{Told, history, holds}
 use Rattle.plain.specs.Lent.{lent}
-use Rattle.plain.specs.Promises.{Left}
+use Rattle.plain.specs.Programs.{datum}
+use Rattle.plain.specs.Promises.{Left, LastEnded}
 use Rattle.plain.specs.Refusals.{number}
 use Rattle.layout.specs.Image.{word, deviceOf}
 use Rattle.layout.specs.Places.{operationAt}
@@ -55,6 +57,12 @@ abbrev pub HoldingCalls : Type 0
 HoldingCalls =
     (part : ℕ) (start : List ℕ) (es : List Event) (ran : Held) → CallRuns part start es ran → (x : ℕ) → x < wordCount (partNamed part)
     → getD (ran .cells) x 0 ≡ holds (partNamed part) (lent start) (toldOf part ran .facts) x
+
+-- document 02, request 6: a program that was taken and finished left its data, where nothing has befallen the word since
+abbrev pub ProgramsLeaveDataCalls : Type 0
+ProgramsLeaveDataCalls =
+    (part : ℕ) (start : List ℕ) (es : List Event) (ran : Held) → CallRuns part start es ran → (x : ℕ) (d : Written) → x < wordCount (partNamed part)
+    → LastEnded (partNamed part) x d (toldOf part ran .facts) → getD (ran .cells) x 0 ≡ datum d x
 
 -- and what `k5l_clock` and `k5l_charge` answer is what the history of accepted waits gives
 abbrev pub ChargeCalls : Type 0

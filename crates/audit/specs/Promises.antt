@@ -7,6 +7,7 @@ use lib.ListN.{length}
 use Rattle.geometry.specs.declared.Part.{Part}
 use Rattle.geometry.specs.Parts.{wordCount, blockOf, bankOf}
 use Rattle.plain.specs.declared.Refusal.the-variants.{Done}
+use Rattle.plain.specs.declared.Written.{Written}
 use Rattle.plain.specs.declared.Place.the-variants.{At}
 use Rattle.plain.specs.declared.Device.{Device}
 use Rattle.plain.specs.declared.Answer.{Answer}
@@ -15,7 +16,8 @@ use Rattle.plain.specs.Events.{Event, read, wait, cut}
 use Rattle.plain.specs.History.{history, holds}
 use Rattle.plain.specs.Lent.{Lent, cellAt}
 use Rattle.plain.specs.Machine.{Ran}
-use Rattle.plain.specs.Promises.{Left, Agrees}
+use Rattle.plain.specs.Programs.{datum}
+use Rattle.plain.specs.Promises.{Left, LastEnded, Agrees}
 use Rattle.plain.specs.Record.{answer}
 use Rattle.plain.specs.Sound.{sound}
 use Rattle.plain.specs.SuspendedProgram.{programRests}
@@ -36,6 +38,12 @@ abbrev pub HoldingCode : Part → Type 0
 HoldingCode p =
     (start : Lent) (es : List Event) (ran : Ran) → Runs p start es ran → (x : ℕ) → x < wordCount p
     → cellAt (ran .lent) x ≡ holds p start (history p (ran .turns) .facts) x
+
+-- document 02, request 6: a program that was taken and finished left its data, where nothing has befallen the word since
+abbrev pub ProgramsLeaveDataCode : Part → Type 0
+ProgramsLeaveDataCode p =
+    (start : Lent) (es : List Event) (ran : Ran) → Runs p start es ran → (x : ℕ) (d : Written) → x < wordCount p
+    → LastEnded p x d (history p (ran .turns) .facts) → cellAt (ran .lent) x ≡ datum d x
 
 -- clock and charge are what the history of accepted waits gives
 abbrev pub ChargeCode : Part → Type 0

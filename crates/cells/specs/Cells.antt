@@ -1,12 +1,18 @@
 -- The lent words of the device, word x at index x: what a finished program, a finished erase and a cut make of them.
 use Prim.Native.Nat.{ℕ}
+use mathlib.Core.Bool.{Bool, not}
 use mathlib.Core.List.{List, _++_}
 use lib.Bits.{bitAnd, bitOr}
+use lib.Dec.{eqb}
 use lib.ListN.{getD, set, replicate, take, drop}
 
 -- "A program takes 6 µs and leaves old AND data."
 unfoldable pub programmed : List ℕ → ℕ → ℕ → List ℕ
 programmed cells at word = set cells at (bitAnd (getD cells at 0) word)
+
+-- document 02, request 6: "asked for a 1 where the cell has 0"; such data in the word would show by OR
+unfoldable pub raises : (old word : ℕ) → Bool
+raises old word = not (eqb (bitOr old word) old)
 
 -- these words in the place of the `size` words from `first` on: what lies before, the words, what lies behind
 abbrev pub replaced : List ℕ → ℕ → ℕ → List ℕ → List ℕ

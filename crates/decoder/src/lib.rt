@@ -1,6 +1,7 @@
 // The decoder: the write of a command's next cycle while nothing runs (document 01, "Command cycles").
 ghost use mathlib.Core.Path.{_≡_};
 ghost use Rattle.plain.specs.Commands.{entered, continued, afterReading};
+ghost use Rattle.plain.specs.Lent.{lent};
 use cycles::reset_or_sequence;
 use geometry::Part;
 use naming::after_unlocked;
@@ -28,14 +29,15 @@ pub fn entered(
     bits: Protection,
     suspension: Suspension,
     command: Command,
+    cells: &[u16],
     address: usize,
     word: u16,
 ) -> Effect
-    ensures { λ r. ⌜ r ≡ entered part bits suspension command address word ⌝ }
+    ensures { λ r. ⌜ r ≡ entered part bits suspension command (lent (now (cells .entry))) address word ⌝ }
 {
     match command {
         Command::Ground => at_ground(suspension, address, word),
-        Command::Entering(cycle) => continued(part, bits, suspension, cycle, address, word),
+        Command::Entering(cycle) => continued(part, bits, suspension, cycle, cells, address, word),
         Command::Reads(_) => after_reading(word),
     }
 }
@@ -46,15 +48,16 @@ fn continued(
     bits: Protection,
     suspension: Suspension,
     cycle: Cycle,
+    cells: &[u16],
     address: usize,
     word: u16,
 ) -> Effect
-    ensures { λ r. ⌜ r ≡ continued part bits suspension cycle address word ⌝ }
+    ensures { λ r. ⌜ r ≡ continued part bits suspension cycle (lent (now (cells .entry))) address word ⌝ }
 {
     match cycle {
         Cycle::Unlock => after_unlock(address, word),
         Cycle::Unlocked => after_unlocked(part, bits, suspension, address, word),
-        Cycle::ProgramData => after_a0(part, bits, suspension, address, word),
+        Cycle::ProgramData => after_a0(part, bits, suspension, cells, address, word),
         Cycle::EraseSetup => after_80(address, word),
         Cycle::EraseUnlock => after_80_unlock(address, word),
         Cycle::EraseUnlocked => after_80_unlocked(part, bits, address, word),

@@ -1,4 +1,5 @@
--- A script and its answers, to the byte: bench row d, an erase of block 39 that is cut off, and lines of every other kind.
+-- A script and its answers, to the byte: bench row d, a program that asks for a 1 in the word that the cut left, an erase of block 39 that
+-- is cut off, and lines of every other kind.
 use Prim.Native.Nat.{ℕ}
 use mathlib.Core.Path.{_≡_}
 use mathlib.Core.List.{List, _++_}
@@ -18,6 +19,10 @@ script =
     ++ ascii "read 100\n"
     ++ ascii "cut\n"
     ++ ascii "cut 0xFF00\n"
+    ++ ascii "write 0x555 0xAA\n"
+    ++ ascii "write 0x2AA 0x55\n"
+    ++ ascii "write 0x555 0xA0\n"
+    ++ ascii "write 100 0xFF35\n"
     ++ ascii "read 16384\n"
     ++ ascii "fresh\n"
     ++ ascii "# block 39 in hand\n"
@@ -43,18 +48,22 @@ answered =
     ++ ascii "7 5 DEBRIS 0000 5 85000\n"
     ++ ascii "8 0 DONE 0000 5 85000\n"
     ++ ascii "8 word 100 FFFF FF34\n"
-    ++ ascii "9 3 ADDRESS 0000 5 85000\n"
+    ++ ascii "9 0 DONE 0000 5 85000\n"
+    ++ ascii "10 0 DONE 0000 5 85000\n"
+    ++ ascii "11 0 DONE 0000 5 85000\n"
+    ++ ascii "12 14 RAISE 0000 5 85000\n"
+    ++ ascii "13 3 ADDRESS 0000 5 85000\n"
     ++ ascii "end 5 85000 32610 56519\n"
-    ++ ascii "13 0 DONE 0000 0 0\n"
-    ++ ascii "14 0 DONE 0000 0 0\n"
-    ++ ascii "15 0 DONE 0000 0 0\n"
-    ++ ascii "16 0 DONE 0000 0 0\n"
     ++ ascii "17 0 DONE 0000 0 0\n"
     ++ ascii "18 0 DONE 0000 0 0\n"
-    ++ ascii "19 0 DONE 0000 51 17750\n"
-    ++ ascii "20 malformed\n"
-    ++ ascii "21 0 DONE 0000 51 17750\n"
-    ++ ascii "21 block 39 2048 2111\n"
+    ++ ascii "19 0 DONE 0000 0 0\n"
+    ++ ascii "20 0 DONE 0000 0 0\n"
+    ++ ascii "21 0 DONE 0000 0 0\n"
+    ++ ascii "22 0 DONE 0000 0 0\n"
+    ++ ascii "23 0 DONE 0000 51 17750\n"
+    ++ ascii "24 malformed\n"
+    ++ ascii "25 0 DONE 0000 51 17750\n"
+    ++ ascii "25 block 39 2048 2111\n"
     ++ ascii "end 51 17750 59476 56503\n"
 
 -- "The device is the small part, fresh, with all cells FFFFH."

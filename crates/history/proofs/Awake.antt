@@ -6,6 +6,7 @@ use Rattle.plain.specs.declared.Operation.{Operation}
 use Rattle.plain.specs.declared.Effect.the-variants.{Starts}
 use Rattle.plain.specs.declared.Device.{Device}
 use Rattle.plain.specs.Commands.{programIsSuspended}
+use Rattle.plain.specs.Lent.{Lent}
 use Rattle.plain.specs.Operations.{suspensionOf}
 use Rattle.plain.specs.Record.{fresh}
 use Rattle.plain.specs.SuspendedProgram.{NoEventSuspendsProgram, NoRunSuspendsProgram}
@@ -13,8 +14,8 @@ use Rattle.plain.proofs.SuspendedProgram.{Awake, awake-lasts}
 use Rattle.history.proofs.KeptOperation.{step-keeps, run-keeps}
 use Rattle.history.proofs.KeptWrite.{Fine, starts}
 
-starts-awake : {p : Part} {w : ℕ} (r : Device) (x : Operation) → Fine p (r .bits) w (r .operation) (Starts x) → Awake x
-starts-awake r x (starts _ _ awake) = awake
+starts-awake : {p : Part} {l : Lent} {w : ℕ} {Reason : Type 0} (r : Device) (x : Operation) → Fine p (r .bits) l w Reason (r .operation) (Starts x) → Awake x
+starts-awake r x (starts _ _ awake _) = awake
 
 pub no-event-suspends-program : (p : Part) → NoEventSuspendsProgram p
 no-event-suspends-program p r l e h = step-keeps p r l Awake awake-lasts h e (λ o same. same .resting ∙ h) (λ a w _. starts-awake r)

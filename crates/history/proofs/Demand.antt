@@ -23,8 +23,8 @@ use Rattle.plain.specs.Record.{fresh}
 use Rattle.plain.specs.Sound.{operationSound}
 use Rattle.plain.specs.Cut.{begunBlock, begunProgram, blockDebris, debrisNeeded, blockCut, cutLent, cutDevice}
 use Rattle.plain.specs.Machine.{Outcome, cutEvent, step, run, Fit}
-use Rattle.plain.specs.History.{Fact, Told, holds}
-use Rattle.plain.specs.Promises.{ProgramBegun, EraseBegun, Left, Demand3, Holding, Agrees, ChargeByHistory}
+use Rattle.plain.specs.History.{Fact, Told, history, holds}
+use Rattle.plain.specs.Promises.{ProgramBegun, EraseBegun, Left, Demand3, Holding, ProgramsLeaveData, Agrees, ChargeByHistory}
 use Rattle.plain.proofs.Tools.{by-cases, clash}
 use Rattle.plain.proofs.BegunSound.{program-free, begun-lies}
 use Rattle.plain.proofs.CutCells.{Lies, program-out, program-hit, block-out, block-hit, block-enough, block-size, length-cut, untouched}
@@ -35,6 +35,8 @@ use Rattle.plain.proofs.SuspendedProgram.{Awake}
 use Rattle.history.proofs.Awake.{fresh-awake, no-run-suspends-program}
 use Rattle.history.proofs.Seen.{seenOp, seen}
 use Rattle.history.proofs.Holds.{Holds}
+use Rattle.history.proofs.Leaves.{Leaves, none-leave}
+use Rattle.history.proofs.Modest.{fresh-modest}
 use Rattle.history.proofs.Runs.{run-told}
 use Rattle.history.proofs.Taken.{run-long}
 use Rattle.history.proofs.Begun.{program-told, block-told, program-is, block-is, same-program, same-block, block-free, apart}
@@ -131,6 +133,13 @@ unfolding seenOp Holds holds
 holding p start es x hx =
     let t = run-told p start fresh start [] es fresh-awake in
     t .hold (λ y hy. refl) x hx ∙ ap (λ (h : Told). holds p start (h .facts) x) (sym (t .tells))
+
+pub programs-leave-data : (p : Part) → ProgramsLeaveData p
+unfolding seenOp Holds holds Leaves
+programs-leave-data p start es x d hx last =
+    let t = run-told p start fresh start [] es fresh-awake in
+    let facts : history p (run p fresh start es .turns) .facts ≡ t .facts = ap (λ (h : Told). h .facts) (t .tells) in
+    t .hold (λ y hy. refl) x hx ∙ t .leave (λ y hy. refl) (fresh-modest start) (none-leave p start) x d hx (rw (← facts) last)
 
 pub charge-by-history : (p : Part) → ChargeByHistory p
 unfolding seenOp

@@ -4,15 +4,13 @@ use mathlib.Core.Path.{_≡_, refl, _∙_}
 use mathlib.Core.Bool.{Bool, true, false}
 use mathlib.Core.List.{List}
 use native.Mathlib.Omega.{arith}
-use lib.Dec.{ltb}
-use borrow.Author.Tests.{ltb-true, leb-true, not-false}
+use borrow.Author.Tests.{leb-true, not-false}
 use Rattle.geometry.specs.declared.Part.{Part}
-use Rattle.geometry.specs.Parts.{wordCount}
 use Rattle.protection.specs.declared.Protection.{Protection}
 use Rattle.protection.specs.Protection.{strayBits}
 use Rattle.protection.proofs.Stray.{stray-after-cut}
 use Rattle.plain.specs.declared.Refusal.{Refusal}
-use Rattle.plain.specs.declared.Refusal.the-variants.{Done, Cells, Address, Clock, Debris, Sequence}
+use Rattle.plain.specs.declared.Refusal.the-variants.{Done, Cells, Address, Clock, Debris, Sequence, Raise}
 use Rattle.plain.specs.declared.Operation.{Operation}
 use Rattle.plain.specs.declared.Operation.the-variants.{Idle}
 use Rattle.plain.specs.declared.Command.{Command}
@@ -29,13 +27,13 @@ use Rattle.plain.specs.Sound.{meterSound, operationSound, commandSound, sound}
 use Rattle.plain.specs.Commands.{effected}
 use Rattle.plain.specs.Time.{Moment, ticks}
 use Rattle.plain.specs.Machine.{Outcome, outcome, refused, ladder, now, waited, readEvent, writeEvent, waitEvent, cutEvent, step, Fit}
-use Rattle.plain.proofs.Tools.{clash}
+use Rattle.plain.proofs.Tools.{clash, neither-left}
 use Rattle.plain.proofs.Facts.{sound-clock, sound-charge, sound-bits, sound-operation, sound-command}
 use Rattle.plain.proofs.FactsHold.{meter-holds, sound-holds, idle-holds}
 use Rattle.plain.proofs.Ladder.{by-ladder}
 use Rattle.plain.proofs.Register.{ground-sound}
 use Rattle.plain.proofs.SoundTime.{ticks-going, ticks-clock}
-use Rattle.history.proofs.KeptWrite.{never, Fine, goes, starts, protects, falls, stays, drops, written-fine}
+use Rattle.history.proofs.KeptWrite.{never, Fine, goes, starts, protects, falls, raised, stays, drops, write-fine}
 use Rattle.history.proofs.KeptRead.{look-alike}
 
 pub record Kept (p : Part) (o : Outcome) : Type 0 where
@@ -70,20 +68,24 @@ module _ (p : Part) (r : Device) (s : sound p r ≡ true) (l : Lent) where
       kept _ Address _ refl
       (λ _ _. changed Done _ _ _ _ _ refl (sound-bits p r s) (x .operation ∙ operation-sound) (x .command (r .command) ∙ sound-command p r s))
 
-  effect-kept : {w : ℕ} (e : Effect) → Fine p (r .bits) w (r .operation) e → Kept p (outcome (effected r e) l)
+  fell : (n : Refusal) → never n ≡ false → Kept p (outcome (effected r (Falls n)) l)
+  unfolding effected
+  fell n h = changed n 0 Ground (r .operation) (r .bits) l h (sound-bits p r s) operation-sound (ground-sound p (r .operation))
+
+  effect-kept : {w : ℕ} {Reason : Type 0} (e : Effect) → Fine p (r .bits) l w Reason (r .operation) e → Kept p (outcome (effected r e) l)
   unfolding effected number
   effect-kept (Goes c) (goes h) = changed Done 0 c (r .operation) (r .bits) l refl (sound-bits p r s) operation-sound h
-  effect-kept (Starts o) (starts h _ _) = changed Done 0 Ground o (r .bits) l refl (sound-bits p r s) h (ground-sound p o)
+  effect-kept (Starts o) (starts h _ _ _) = changed Done 0 Ground o (r .bits) l refl (sound-bits p r s) h (ground-sound p o)
   effect-kept (Protects new) (protects g h) = changed Done 0 Ground (r .operation) new l refl g h (ground-sound p (r .operation))
-  effect-kept (Falls n) (falls h) = changed n 0 Ground (r .operation) (r .bits) l h (sound-bits p r s) operation-sound (ground-sound p (r .operation))
-  effect-kept (Stays n) (stays h) = unchanged n h
+  effect-kept (Falls n) (falls h) = fell n (neither-left (never n) _ h)
+  effect-kept (Falls n) (raised _) = fell Raise refl
+  effect-kept (Stays n) (stays h) = unchanged n (neither-left (never n) _ h)
   effect-kept Drops drops = changed Sequence 0 Ground Idle (r .bits) l refl (sound-bits p r s) (idle-holds p (r .bits)) (ground-sound p Idle)
 
   write-kept : (a w : ℕ) → Kept p (writeEvent p r l a w)
   unfolding writeEvent number
   write-kept a w =
-      kept _ Address _ refl
-      (λ _ h. effect-kept _ (written-fine p (r .bits) (sound-bits p r s) a w (ltb-true a (wordCount p) (not-false (ltb a (wordCount p)) h)) (r .operation) (r .command) operation-sound (sound-command p r s)))
+      kept _ Address _ refl (λ _ h. effect-kept _ (write-fine p r l a w (Unit {0}) s h (λ _. tt)))
 
   wait-kept : (n : ℕ) → Kept p (waitEvent p r l n)
   unfolding waitEvent number

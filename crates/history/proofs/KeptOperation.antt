@@ -3,9 +3,7 @@ use Prim.Native.Nat.{ℕ}
 use mathlib.Core.Path.{_≡_, refl}
 use mathlib.Core.Bool.{Bool, false}
 use mathlib.Core.List.{List, [], _∷_}
-use borrow.Author.Tests.{ltb-true, not-false}
 use Rattle.geometry.specs.declared.Part.{Part}
-use Rattle.geometry.specs.Parts.{wordCount}
 use Rattle.plain.specs.declared.Refusal.{Refusal}
 use Rattle.plain.specs.declared.Refusal.the-variants.{Address, Clock, Debris}
 use Rattle.plain.specs.declared.Operation.{Operation}
@@ -16,11 +14,10 @@ use Rattle.plain.specs.Commands.{effected}
 use Rattle.plain.specs.Events.{Event, read, write, wait, cut}
 use Rattle.plain.specs.Lent.{Lent}
 use Rattle.plain.specs.Machine.{Outcome, ladder, now, Fit, readEvent, writeEvent, waitEvent, cutEvent, step, run}
-use Rattle.plain.proofs.Facts.{sound-bits, sound-operation, sound-command}
 use Rattle.plain.proofs.Ladder.{by-ladder}
 use Rattle.plain.proofs.Lasting.{Lasting, ticks-last}
 use Rattle.history.proofs.KeptRead.{Alike, look-alike}
-use Rattle.history.proofs.KeptWrite.{Fine, written-fine}
+use Rattle.history.proofs.KeptWrite.{Fine, write-fine}
 
 module _ (p : Part) (r : Device) (l : Lent) (P : Operation → Type 0) (lasts : Lasting P) where
   abbrev Keeps : Outcome → Type 0
@@ -28,13 +25,13 @@ module _ (p : Part) (r : Device) (l : Lent) (P : Operation → Type 0) (lasts : 
 
   -- what a write of the word w starts has it
   abbrev pub Starting : (w : ℕ) → Type 0
-  Starting w = (x : Operation) → Fine p (r .bits) w (r .operation) (Starts x) → P x
+  Starting w = (x : Operation) → Fine p (r .bits) l w (Unit {0}) (r .operation) (Starts x) → P x
 
   module _ (h : P (r .operation)) where
     climbs : (fails : Bool) (own : Refusal) (taken : Outcome) → (Fit p r l → fails ≡ false → Keeps taken) → Keeps (ladder p r l fails own taken)
     climbs fails own taken f = by-ladder p r l fails own taken Keeps (λ _. h) h (λ _. h) f
 
-    effect-keeps : {w : ℕ} (e : Effect) → Starting w → Fine p (r .bits) w (r .operation) e → P (effected r e .device .operation)
+    effect-keeps : {w : ℕ} (e : Effect) → Starting w → Fine p (r .bits) l w (Unit {0}) (r .operation) e → P (effected r e .device .operation)
     unfolding effected
     effect-keeps (Goes c) s f = h
     effect-keeps (Starts o) s f = s o f
@@ -47,9 +44,7 @@ module _ (p : Part) (r : Device) (l : Lent) (P : Operation → Type 0) (lasts : 
     unfolding step readEvent writeEvent waitEvent cutEvent
     step-keeps (read a) f s = climbs _ Address _ (λ _ _. f _ (look-alike p (r .bits) (r .command) (r .operation) l a))
     step-keeps (write a w) f s =
-        climbs _ Address _
-        (λ fit t. effect-keeps _ (s a w refl)
-        (written-fine p (r .bits) (sound-bits p r (fit .sound)) a w (ltb-true a (wordCount p) (not-false _ t)) (r .operation) (r .command) (sound-operation p r (fit .sound) (r .operation) refl) (sound-command p r (fit .sound))))
+        climbs _ Address _ (λ fit t. effect-keeps _ (s a w refl) (write-fine p r l a w _ (fit .sound) t (λ _. tt)))
     step-keeps (wait n) f s = climbs _ Clock _ (λ _ _. ticks-last p P lasts n (now r l) h)
     step-keeps (cut debris) f s = climbs _ Debris _ (λ _ _. lasts .idle)
 

@@ -1,4 +1,4 @@
--- What a read flips, soundness does not look at; it leaves the data of a program, and suspends none.
+-- What a read flips, soundness does not look at; it leaves what a program writes, and suspends none.
 use Prim.Native.Nat.{ℕ}
 use mathlib.Core.Path.{_≡_, refl}
 use Rattle.geometry.specs.declared.Part.{Part}
@@ -20,6 +20,7 @@ use Rattle.plain.specs.Sound.{programSound, listSound, chipListSound, lowest, i
 use Rattle.plain.specs.Status.{polls, polled, insidePolled, readingOn, rests, rested, look}
 use Rattle.plain.specs.SuspendedProgram.{programRests}
 use Rattle.plain.proofs.Data.{insideData, dataOf}
+use Rattle.plain.proofs.Modest.{raisesInside, raisesIn}
 use Rattle.plain.proofs.Tools.{by-test}
 
 module _ (p : Part) (bits : Protection) where
@@ -28,28 +29,29 @@ module _ (p : Part) (bits : Protection) where
     pub command : (c : Command) → commandSound p x c ≡ commandSound p o c
     pub word : dataOf x ≡ dataOf o
     pub resting : programRests x ≡ programRests o
+    pub modest : (l : Lent) → raisesIn l x ≡ raisesIn l o
 
   alike : {o x : Operation} → operationSound p bits x ≡ operationSound p bits o → ((c : Command) → commandSound p x c ≡ commandSound p o c) → dataOf x ≡ dataOf o → programRests x ≡ programRests o
-      → Alike o x
-  alike f g d h = record { operation = f; command = g; word = d; resting = h }
+      → ((l : Lent) → raisesIn l x ≡ raisesIn l o) → Alike o x
+  alike f g d h m = record { operation = f; command = g; word = d; resting = h; modest = m }
 
   itself : (o : Operation) → Alike o o
-  itself o = alike refl (λ c. refl) refl refl
+  itself o = alike refl (λ c. refl) refl refl (λ l. refl)
 
   inside-polled : (e : Erase) (i : Inside) → Alike (EraseSuspended (suspended e i)) (EraseSuspended (suspended e (insidePolled i)))
-  unfolding insidePolled operationSound insideSound programSound commandSound isStill runningOf runningInside suspensionOf dataOf insideData
-  inside-polled e Nothing = alike refl (λ c. refl) refl refl
-  inside-polled e (Runs q) = alike refl (λ c. refl) refl refl
+  unfolding insidePolled operationSound insideSound programSound commandSound isStill runningOf runningInside suspensionOf dataOf insideData raisesIn raisesInside
+  inside-polled e Nothing = alike refl (λ c. refl) refl refl (λ l. refl)
+  inside-polled e (Runs q) = alike refl (λ c. refl) refl refl (λ l. refl)
 
   polled-alike : (o : Operation) (a : ℕ) → Alike o (polled p o a)
-  unfolding polled operationSound programSound listSound chipListSound lowest commandSound isStill runningOf suspensionOf dataOf programIsSuspended
-  polled-alike Idle a = alike refl (λ c. refl) refl refl
-  polled-alike (Programming q) a = alike refl (λ c. refl) refl refl
-  polled-alike (ProgramSuspended q) a = alike refl (λ c. refl) refl refl
-  polled-alike (Window e) a = alike refl (λ c. refl) refl refl
-  polled-alike (Erasing e) a = alike refl (λ c. refl) refl refl
+  unfolding polled operationSound programSound listSound chipListSound lowest commandSound isStill runningOf suspensionOf dataOf programIsSuspended raisesIn
+  polled-alike Idle a = alike refl (λ c. refl) refl refl (λ l. refl)
+  polled-alike (Programming q) a = alike refl (λ c. refl) refl refl (λ l. refl)
+  polled-alike (ProgramSuspended q) a = alike refl (λ c. refl) refl refl (λ l. refl)
+  polled-alike (Window e) a = alike refl (λ c. refl) refl refl (λ l. refl)
+  polled-alike (Erasing e) a = alike refl (λ c. refl) refl refl (λ l. refl)
   polled-alike (EraseSuspended s) a = inside-polled (s .erase) (s .inside)
-  polled-alike (ChipErasing e) a = alike refl (λ c. refl) refl refl
+  polled-alike (ChipErasing e) a = alike refl (λ c. refl) refl refl (λ l. refl)
 
   -- of a suspended erase the register asks nothing more
   same-erase : (e x : Erase) (c : Command) → stillCommand p (OfErase e) c ≡ stillCommand p (OfErase x) c
@@ -59,9 +61,9 @@ module _ (p : Part) (bits : Protection) where
   same-erase e x (Reads r) = refl
 
   inside-rested : (e : Erase) (i : Inside) → Alike (EraseSuspended (suspended e i)) (rested (EraseSuspended (suspended e i)))
-  unfolding rested operationSound listSound insideSound commandSound isStill runningOf runningInside suspensionOf dataOf programIsSuspended
-  inside-rested e Nothing = alike refl (λ c. same-erase _ e c) refl refl
-  inside-rested e (Runs q) = alike refl (λ c. refl) refl refl
+  unfolding rested operationSound listSound insideSound commandSound isStill runningOf runningInside suspensionOf dataOf programIsSuspended raisesIn
+  inside-rested e Nothing = alike refl (λ c. same-erase _ e c) refl refl (λ l. refl)
+  inside-rested e (Runs q) = alike refl (λ c. refl) refl refl (λ l. refl)
 
   rested-alike : (o : Operation) → Alike o (rested o)
   unfolding rested

@@ -4,11 +4,14 @@ pub mod KeptWrite
 pub mod KeptRead
 pub mod KeptEvents
 pub mod KeptOperation
+pub mod Raised
 pub mod Kept
 pub mod Awake
+pub mod Modest
 pub mod Seen
 pub mod Writes
 pub mod Holds
+pub mod Leaves
 pub mod Times
 pub mod Cuts
 pub mod Runs

@@ -1,4 +1,4 @@
--- A step and a run: the history says what the record says, and each word holds what its facts give it.
+-- A step and a run: the history says what the record says, each word holds what its facts give it, and finished programs left their data.
 use Prim.Native.Nat.{ℕ, _≤_}
 use mathlib.Core.Path.{_≡_, refl, ap, _∙_}
 use mathlib.Core.Bool.{Bool, false}
@@ -26,10 +26,13 @@ use Rattle.plain.specs.History.{Fact, Told, kind, unheard, cuts, wroteAs, waite
 use Rattle.plain.proofs.Tools.{by-test}
 use Rattle.plain.proofs.Facts.{sound-operation}
 use Rattle.plain.proofs.Ladder.{by-ladder}
+use Rattle.plain.proofs.Modest.{Modest}
 use Rattle.plain.proofs.SuspendedProgram.{Awake}
 use Rattle.history.proofs.Awake.{no-event-suspends-program}
 use Rattle.history.proofs.Seen.{seenOp, seen, polled-seen, rested-seen}
 use Rattle.history.proofs.Holds.{Holds}
+use Rattle.history.proofs.Leaves.{Leaves, cut-leaves}
+use Rattle.history.proofs.Modest.{step-modest}
 use Rattle.history.proofs.Writes.{write-told}
 use Rattle.history.proofs.Times.{waited-told}
 use Rattle.history.proofs.Cuts.{cut-holds}
@@ -49,30 +52,31 @@ module _ (p : Part) (start : Lent) where
     pub facts : List Fact
     pub tells : tell p (seen p r fs) e (o .answer .refusal) ≡ seen p (o .answer .device) facts
     pub hold : Holds p start fs l → Holds p start facts (o .lent)
+    pub leave : Holds p start fs l → Modest l (r .operation) → Leaves p start fs → Leaves p start facts
 
   -- an answer that says that the event was as if it had not been
   unheard-step : (r : Device) (l : Lent) (fs : List Fact) (e : Event) (n : Refusal) → kind n ≡ unheard → Stepped r l fs e (refused n r l)
   unfolding tell wroteAs waitedAs cutAs
-  unheard-step r l fs (read a) n k = record { facts = fs; tells = refl; hold = λ h. h }
-  unheard-step r l fs (write a w) n k = record { facts = fs; tells = rw k; hold = λ h. h }
-  unheard-step r l fs (wait m) n k = record { facts = fs; tells = rw k; hold = λ h. h }
-  unheard-step r l fs (cut debris) n k = record { facts = fs; tells = rw k; hold = λ h. h }
+  unheard-step r l fs (read a) n k = record { facts = fs; tells = refl; hold = λ h. h; leave = λ h g k. k }
+  unheard-step r l fs (write a w) n k = record { facts = fs; tells = rw k; hold = λ h. h; leave = λ h g k. k }
+  unheard-step r l fs (wait m) n k = record { facts = fs; tells = rw k; hold = λ h. h; leave = λ h g k. k }
+  unheard-step r l fs (cut debris) n k = record { facts = fs; tells = rw k; hold = λ h. h; leave = λ h g k. k }
 
   module _ (r : Device) (l : Lent) (fs : List Fact) where
     read-step : (a : ℕ) (w : ℕ) (o : Operation) → seenOp p o ≡ seenOp p (r .operation)
         → Stepped r l fs (read a) (outcome (answer Done w (device (r .meter) (r .command) o (r .bits))) l)
     unfolding tell
-    read-step a w o e = record { facts = fs; tells = rw e; hold = λ h. h }
+    read-step a w o e = record { facts = fs; tells = rw e; hold = λ h. h; leave = λ h g k. k }
 
-    write-step : (a w : ℕ) → Awake (r .operation) → Stepped r l fs (write a w) (outcome (effected r (written p (r .bits) (r .operation) (r .command) a w)) l)
+    write-step : (a w : ℕ) → Awake (r .operation) → Stepped r l fs (write a w) (outcome (effected r (written p (r .bits) (r .operation) (r .command) l a w)) l)
     unfolding tell
-    write-step a w n = record { facts = fs; tells = write-told p fs a w r n; hold = λ h. h }
+    write-step a w n = record { facts = fs; tells = write-told p fs l a w r n; hold = λ h. h; leave = λ h g k. k }
 
     wait-step : (n : ℕ) → Fit p r l → Stepped r l fs (wait n) (waited r (ticks p n (now r l)))
     unfolding tell waitedAs kind
     wait-step n f =
         let w = waited-told p start (r .command) (r .bits) n (now r l) fs (sound-operation p r (f .sound) (r .operation) refl) (f .whole) in
-        record { facts = w .facts; tells = w .tells; hold = w .hold }
+        record { facts = w .facts; tells = w .tells; hold = w .hold; leave = w .leave }
 
     cut-step : (debris : List ℕ) → Awake (r .operation) → Fit p r l → debrisNeeded p (r .operation) ≤ length debris → Stepped r l fs (cut debris) (cutTaken p r l debris)
     unfolding tell cutAs kind seenOp
@@ -81,6 +85,7 @@ module _ (p : Part) (start : Lent) where
           facts = cuts p (seenOp p (r .operation)) debris fs;
           tells = refl;
           hold = cut-holds p (r .bits) start debris (r .operation) n (sound-operation p r (f .sound) (r .operation) refl) fs l (f .whole) enough;
+          leave = λ h g k. cut-leaves p start (seenOp p (r .operation)) debris fs k;
         }
 
     climbs : (e : Event) (fails : Bool) (own : Refusal) (taken : Outcome) → kind own ≡ unheard → (Fit p r l → fails ≡ false → Stepped r l fs e taken)
@@ -104,11 +109,12 @@ module _ (p : Part) (start : Lent) where
     pub facts : List Fact
     pub tells : told p (seen p r fs) (run p r l es .turns) ≡ seen p (run p r l es .device) facts
     pub hold : Holds p start fs l → Holds p start facts (run p r l es .lent)
+    pub leave : Holds p start fs l → Modest l (r .operation) → Leaves p start fs → Leaves p start facts
 
   -- a run that begins without a suspended program never holds one
   pub run-told : (r : Device) (l : Lent) (fs : List Fact) (es : List Event) → Awake (r .operation) → ToldRight r l fs es
   unfolding run told
-  run-told r l fs [] n = record { facts = fs; tells = refl; hold = λ h. h }
+  run-told r l fs [] n = record { facts = fs; tells = refl; hold = λ h. h; leave = λ h g k. k }
   run-told r l fs (e ∷ es) n =
       let s = stepped r l fs e n in
       let o = step p r l e in
@@ -117,4 +123,5 @@ module _ (p : Part) (start : Lent) where
         facts = t .facts;
         tells = ap (λ (h : Told). told p h (run p (o .answer .device) (o .lent) es .turns)) (s .tells) ∙ t .tells;
         hold = λ h. t .hold (s .hold h);
+        leave = λ h g k. t .leave (s .hold h) (step-modest p r l g e) (s .leave h g k);
       }

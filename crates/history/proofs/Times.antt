@@ -35,10 +35,12 @@ use Rattle.plain.specs.Time.{Moment, last, onward, current, operationTick, insi
 use Rattle.plain.specs.History.{Fact, Doing, nothing, programs, waits, erases, wipes, rests, programsIn, programDone, eraseDone, Told, telling, draws, goes, comes, microsecond, time}
 use Rattle.plain.proofs.Tools.{by-test, by-cases}
 use Rattle.plain.proofs.Facts.{ProgramFacts, EraseFacts, programming, window, erasing, chip-erasing, inside-runs}
+use Rattle.plain.proofs.Modest.{Modest, tick-modest}
 use Rattle.plain.proofs.Programs.{length-finished}
 use Rattle.plain.proofs.SoundTime.{tick-fit}
 use Rattle.history.proofs.Seen.{seenInside, seenOp, none-gone}
 use Rattle.history.proofs.Holds.{Holds, holds-program, holds-erase}
+use Rattle.history.proofs.Leaves.{Leaves, op-leaves}
 
 -- ---- counting up and counting down
 
@@ -177,11 +179,12 @@ module _ (p : Part) (start : Lent) (c : Command) (bits : Protection) where
     pub facts : List Fact
     pub tells : time p n (seenAt m fs) ≡ seenAt (ticks p n m) facts
     pub hold : Holds p start fs (m .lent) → Holds p start facts (ticks p n m .lent)
+    pub leave : Holds p start fs (m .lent) → Modest (m .lent) (m .operation) → Leaves p start fs → Leaves p start facts
     pub size : length (ticks p n m .lent .cells) ≡ length (m .lent .cells)
 
   pub waited-told : (n : ℕ) (m : Moment) (fs : List Fact) → operationSound p bits (m .operation) ≡ true → length (m .lent .cells) ≡ wordCount p → Waited n m fs
   unfolding time ticks tick
-  waited-told zero m fs f long = record { facts = fs; tells = refl; hold = λ h. h; size = refl }
+  waited-told zero m fs f long = record { facts = fs; tells = refl; hold = λ h. h; leave = λ h g k. k; size = refl }
   waited-told (suc n) m fs f long =
       let more = tick-long p bits (runningOf (m .operation)) (m .lent) long in
       let w = waited-told n (tick p m) (comes p (seenOp p (m .operation)) fs) (tick-fit p bits (m .operation) f) (more ∙ long) in
@@ -189,5 +192,8 @@ module _ (p : Part) (start : Lent) (c : Command) (bits : Protection) where
         facts = w .facts;
         tells = ap (time p n) (one-told m fs f) ∙ w .tells;
         hold = λ h. w .hold (op-holds p bits start fs (m .lent) long h (m .operation) f);
+        leave = λ h g k.
+            w .leave (op-holds p bits start fs (m .lent) long h (m .operation) f) (tick-modest p (m .operation) (m .lent) g)
+            (op-leaves p start fs (m .lent) h k (m .operation) g);
         size = w .size ∙ more;
       }

@@ -5,14 +5,13 @@ use mathlib.Core.Bool.{Bool, true, false, _&&_, not}
 use mathlib.Core.List.{List}
 use lib.Dec.{eqb}
 use borrow.Author.Tests.{eqb-true}
-use Rattle.blocks.specs.Blocks.{has}
 use Rattle.geometry.specs.declared.Part.{Part}
 use Rattle.geometry.specs.Parts.{blockOf, bankOf, bankOfBlock}
 use Rattle.meter.specs.declared.Meter.{Meter}
 use Rattle.protection.specs.declared.Protection.{Protection}
 use Rattle.protection.specs.Protection.{protected, unprotected, allProtected}
 use Rattle.plain.specs.declared.Refusal.{Refusal}
-use Rattle.plain.specs.declared.Refusal.the-variants.{Busy, Sequence, Bank, Protected, Suspended, Locked}
+use Rattle.plain.specs.declared.Refusal.the-variants.{Busy, Sequence, Bank, Protected, Suspended, Locked, Raise}
 use Rattle.plain.specs.declared.Erase.{Erase}
 use Rattle.plain.specs.declared.Inside.{Inside}
 use Rattle.plain.specs.declared.Inside.the-variants.{Nothing, Runs}
@@ -30,10 +29,11 @@ use Rattle.plain.specs.declared.Device.{Device}
 use Rattle.plain.specs.Choice.{if_then_else_}
 use Rattle.plain.specs.Cycles.{isAt, is, firstUnlock, secondUnlock, isDyb}
 use Rattle.plain.specs.Figures.{programTime, windowTime, eraseTime, chipTime}
+use Rattle.plain.specs.Lent.{Lent}
 use Rattle.plain.specs.Operations.{suspensionOf}
-use Rattle.plain.specs.Programs.{writing, blockWritten}
+use Rattle.plain.specs.Programs.{writing, blockWritten, raises}
 use Rattle.plain.specs.Record.{device, suspended}
-use Rattle.plain.specs.Commands.{programIsSuspended, isSuspended, resumes, begins, atGround, afterUnlock, afterUnlocked, afterA0, after80, after80Unlock, after80Unlocked, after48, after60, after68, after6060, afterReading, continued, entered, addBlock, inWindow, inSuspendedErase, written, effected}
+use Rattle.plain.specs.Commands.{programIsSuspended, isSuspended, resumes, keepsOut, started, begins, atGround, afterUnlock, afterUnlocked, afterA0, after80, after80Unlock, after80Unlocked, after48, after60, after68, after6060, afterReading, continued, entered, addBlock, inWindow, inSuspendedErase, written, effected}
 use Rattle.plain.specs.History.{Fact, Told, kind, dropped, unheard, enters, protects, beginsProgram, goesOn, hearsCycle, hears, wrote, gaveUp, turnedDown, wroteAs}
 use Rattle.plain.specs.History as told
 use Rattle.plain.proofs.Tools.{by-test, both-right, clash}
@@ -41,7 +41,7 @@ use Rattle.plain.proofs.Register.{standing}
 use Rattle.plain.proofs.SuspendedProgram.{Awake}
 use Rattle.history.proofs.Seen.{seenInside, seenOp, seen, none-gone}
 
-module _ (p : Part) (fs : List Fact) (a w : ℕ) (m : Meter) (bits : Protection) where
+module _ (p : Part) (fs : List Fact) (l : Lent) (a w : ℕ) (m : Meter) (bits : Protection) where
   abbrev rec : Command → Operation → Device
   rec c o = device m c o bits
 
@@ -116,13 +116,11 @@ module _ (p : Part) (fs : List Fact) (a w : ℕ) (m : Meter) (bits : Protection)
   resumes-told (OfProgram q) n f e = clash refl n
   resumes-told (OfErase x) n f e = starts (OfErase x) Ground _ (rw (f, e))
 
-  begins-told : (s : Suspension) → In s (Entering ProgramData) (begins p s (writing a w))
-  unfolding begins hears hearsCycle beginsProgram kind seenOp seenInside standing
-  begins-told Unsuspended = starts Unsuspended _ _ (rw (none-gone (programTime p)))
-  begins-told (OfProgram q) = down (OfProgram q) _ Suspended refl
-  begins-told (OfErase x) =
-      by-test (In (OfErase x) (Entering ProgramData)) (has (x .list) (blockWritten p (writing a w))) (λ _. down (OfErase x) _ Suspended refl)
-      (λ _. starts (OfErase x) _ _ (rw (none-gone (programTime p))))
+  begins-told : (s : Suspension) → keepsOut p s (writing a w) ≡ false → In s (Entering ProgramData) (Starts (begins s (started p (writing a w))))
+  unfolding keepsOut begins hears hearsCycle beginsProgram seenOp seenInside standing
+  begins-told Unsuspended n = starts Unsuspended _ _ (rw (none-gone (programTime p)))
+  begins-told (OfProgram q) n = clash refl n
+  begins-told (OfErase x) n = starts (OfErase x) _ _ (rw (none-gone (programTime p)))
 
   -- ---- the register's states
 
@@ -148,9 +146,18 @@ module _ (p : Part) (fs : List Fact) (a w : ℕ) (m : Meter) (bits : Protection)
       (λ h. by-test F (is w 0x90) (λ i. goes s c _ (rw (low 0x90 i)))
       (λ i. by-test F (is w 0x58) (λ j. goes s c _ (rw (low 0x58 j)))
       (λ j. by-test F (is w 0x48) (λ k. unless-so s c (isSuspended s) _ (goes s c _ (rw (low 0x48 k))))
-      (λ k. by-test F (is w 0x78) (λ l. unless-so s c (isSuspended s) _ (guards s c _ (rw (low 0x78 l))))
-      (λ l. by-test F (is w 0x60) (λ n. unless-so s c (isSuspended s) _ (goes s c _ (rw (low 0x60 n))))
-      (λ n. sequence s c)))))))))
+      (λ k. by-test F (is w 0x78) (λ n. unless-so s c (isSuspended s) _ (guards s c _ (rw (low 0x78 n))))
+      (λ n. by-test F (is w 0x60) (λ o. unless-so s c (isSuspended s) _ (goes s c _ (rw (low 0x60 o))))
+      (λ o. sequence s c)))))))))
+
+  data-told : (s : Suspension) → In s (Entering ProgramData) (afterA0 p bits s l a w)
+  unfolding afterA0 kind
+  data-told s =
+      let c = Entering ProgramData in
+      let F = In s c in
+      by-test F (protected bits (blockWritten p (writing a w))) (λ _. down s c Protected refl)
+      (λ _. by-test F (keepsOut p s (writing a w)) (λ _. down s c Suspended refl)
+      (λ n. by-test F (raises (writing a w) l) (λ _. down s c Raise refl) (λ _. begins-told s n)))
 
   erase-told : (s : Suspension) → In s (Entering EraseUnlocked) (after80Unlocked p bits a w)
   unfolding after80Unlocked hears hearsCycle kind seenOp unprotected
@@ -167,14 +174,13 @@ module _ (p : Part) (fs : List Fact) (a w : ℕ) (m : Meter) (bits : Protection)
 
   locks : (s : Suspension) (c : Command) (b : Protection) → heard s c ≡ protects (before c (standing s)) (b .dyb) (b .ppb) → In s c (if bits .lock then Falls Locked else Protects b)
   unfolding kind
-  locks s c b e = by-test (In s c) (bits .lock) (λ l. down s c Locked refl) (λ l. guards s c b e)
+  locks s c b e = by-test (In s c) (bits .lock) (λ _. down s c Locked refl) (λ _. guards s c b e)
 
-  cycle-told : (s : Suspension) (c : Cycle) → In s (Entering c) (continued p bits s c a w)
-  unfolding continued afterUnlock afterA0 after80 after80Unlock after48 after60 after68 after6060 hears hearsCycle kind
+  cycle-told : (s : Suspension) (c : Cycle) → In s (Entering c) (continued p bits s c l a w)
+  unfolding continued afterUnlock after80 after80Unlock after48 after60 after68 after6060 hears hearsCycle kind
   cycle-told s Unlock = second s _ _ (λ e. rw (low 0x55 (both-right (isAt a 0x2AA) (is w 0x55) e))) (λ e. rw e)
   cycle-told s Unlocked = third s
-  cycle-told s ProgramData =
-      by-test (In s (Entering ProgramData)) (protected bits (blockWritten p (writing a w))) (λ _. down s _ Protected refl) (λ _. begins-told s)
+  cycle-told s ProgramData = data-told s
   cycle-told s EraseSetup =
       by-test (In s (Entering EraseSetup)) (firstUnlock a w) (λ e. goes s _ _ (rw (low 0xAA (both-right (isAt a 0x555) (is w 0xAA) e))))
       (λ e. or-ground s _ _ (λ f. rw f) (λ f. sequence s _))
@@ -193,7 +199,7 @@ module _ (p : Part) (fs : List Fact) (a w : ℕ) (m : Meter) (bits : Protection)
   cycle-told s PpbClearing =
       or-ground s _ _ (λ e. rw e) (λ e. by-test (In s (Entering PpbClearing)) (is w 0x40) (λ f. locks s _ _ (rw e)) (λ f. sequence s _))
 
-  enters-told : (s : Suspension) (c : Command) → programIsSuspended s ≡ false → In s c (entered p bits s c a w)
+  enters-told : (s : Suspension) (c : Command) → programIsSuspended s ≡ false → In s c (entered p bits s c l a w)
   unfolding entered afterReading hears
   enters-told s Ground n = at-ground s n
   enters-told s (Entering c) n = cycle-told s c
@@ -221,12 +227,12 @@ module _ (p : Part) (fs : List Fact) (a w : ℕ) (m : Meter) (bits : Protection)
       (λ g. by-test (For c (Window e)) (protected bits (blockOf p a)) (λ h. window-down) (λ h. runs-on _ (rw (f, none-gone (windowTime p))))))
       (λ f. by-test (For c (Window e)) (is w 0xB0) (λ g. runs-on _ (rw (f, none-gone (eraseTime p)))) (λ g. window-drops))
 
-  in-suspended : (c : Command) (e : Erase) (i : Inside) → For c (EraseSuspended (suspended e i)) (inSuspendedErase i (entered p bits (OfErase e) c a w))
+  in-suspended : (c : Command) (e : Erase) (i : Inside) → For c (EraseSuspended (suspended e i)) (inSuspendedErase i (entered p bits (OfErase e) c l a w))
   unfolding inSuspendedErase kind standing programIsSuspended
   in-suspended c e Nothing = enters-told (OfErase e) c refl
   in-suspended c e (Runs q) = stays Busy refl
 
-  written-told : (c : Command) (o : Operation) → Awake o → For c o (written p bits o c a w)
+  written-told : (c : Command) (o : Operation) → Awake o → For c o (written p bits o c l a w)
   unfolding written wrote kind seenOp seenInside standing suspensionOf programIsSuspended
   written-told c Idle n = enters-told Unsuspended c refl
   written-told c (Programming q) n = stays Busy refl
@@ -237,7 +243,7 @@ module _ (p : Part) (fs : List Fact) (a w : ℕ) (m : Meter) (bits : Protection)
   written-told c (ChipErasing e) n = stays Busy refl
 
 -- a write on any record that holds no suspended program
-pub write-told : (p : Part) (fs : List Fact) (a w : ℕ) (r : Device) → Awake (r .operation)
-    → wroteAs p (seen p r fs) (kind (effected r (written p (r .bits) (r .operation) (r .command) a w) .refusal)) a w
-    ≡ seen p (effected r (written p (r .bits) (r .operation) (r .command) a w) .device) fs
-write-told p fs a w r n = written-told p fs a w (r .meter) (r .bits) (r .command) (r .operation) n .tells
+pub write-told : (p : Part) (fs : List Fact) (l : Lent) (a w : ℕ) (r : Device) → Awake (r .operation)
+    → wroteAs p (seen p r fs) (kind (effected r (written p (r .bits) (r .operation) (r .command) l a w) .refusal)) a w
+    ≡ seen p (effected r (written p (r .bits) (r .operation) (r .command) l a w) .device) fs
+write-told p fs l a w r n = written-told p fs l a w (r .meter) (r .bits) (r .command) (r .operation) n .tells

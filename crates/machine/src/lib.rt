@@ -45,7 +45,7 @@ pub fn read(part: Part, device: Device, cells: &[u16], address: usize) -> Answer
     }
 }
 
-// A write alters no cell: the cells are lent so that their length is judged.
+// A write alters no cell: their length is judged, and by A0H's data cycle the word that it would program.
 pub fn write(part: Part, device: Device, cells: &[u16], address: usize, word: u16) -> Answer
     ensures { λ r. ⌜ r ≡ writeEvent part device (lent (now (cells .entry))) address word .answer ⌝ }
 {

@@ -12,6 +12,7 @@ pub mod Register
 pub mod SoundTime
 pub mod Lasting
 pub mod Data
+pub mod Modest
 pub mod Ends
 pub mod Leaps
 pub mod CutCells

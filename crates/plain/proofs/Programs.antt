@@ -8,13 +8,15 @@ use lib.Bits.{bitAnd, bitOr}
 use lib.Dec.{eqb}
 use lib.ListN.{length}
 use borrow.Author.Tests.{eqb-true, eq-eqb, ltb-true}
+use Rattle.cells.proofs.Bits.{raises-none, leaves-raises}
 use Rattle.cells.proofs.Laws.{length-programmed, programmed-at, length-cutShort, cutShort-at}
 use Rattle.geometry.specs.declared.Part.{Part}
 use Rattle.geometry.specs.Parts.{wordCount, blockOf}
 use Rattle.plain.specs.declared.Written.{Written}
 use Rattle.plain.specs.Choice.{if_then_else_}
 use Rattle.plain.specs.Lent.{Lent, cellAt}
-use Rattle.plain.specs.Programs.{writes, datum, firstWord, liesIn, blockWritten, finished, debrisFor, cutOff}
+use Rattle.plain.specs.Programs.{writes, datum, firstWord, liesIn, blockWritten, raises, finished, debrisFor, cutOff}
+use Rattle.plain.proofs.Tools.{clash}
 
 as-choice : (b : Bool) (x y : ℕ) → cond b x y ≡ (if b then x else y)
 as-choice true x y = refl
@@ -44,6 +46,16 @@ module _ (p : Part) (d : Written) where
   first-in-part h = written-in-part (firstWord d) h first-written
 
   -- ---- what it leaves
+
+  -- data that asks for no 1 where the word has a 0 stays as it is
+  pub modest-leaves : (l : Lent) → raises d l ≡ false → (x : ℕ) → writes d x ≡ true → bitAnd (cellAt l x) (datum d x) ≡ datum d x
+  unfolding raises writes datum
+  modest-leaves l h x e = rw (eqb-true x (d .at) e) (raises-none (cellAt l (d .at)) (d .word) h)
+
+  -- and other data does not
+  pub others-spoil : (l : Lent) → raises d l ≡ true → ((x : ℕ) → writes d x ≡ true → bitAnd (cellAt l x) (datum d x) ≡ datum d x) → ⊥
+  unfolding raises writes datum
+  others-spoil l h f = clash h (leaves-raises (cellAt l (d .at)) (d .word) (f (d .at) (eq-eqb (d .at) (d .at) refl)))
 
   module _ (l : Lent) (long : length (l .cells) ≡ wordCount p) (lies : liesIn p d ≡ true) where
     inside : d .at < length (l .cells)

@@ -15,6 +15,7 @@ use Rattle.plain.specs.declared.Command.{Command}
 use Rattle.plain.specs.declared.Effect.{Effect}
 use Rattle.plain.specs.declared.Effect.the-variants.{Stays}
 use Rattle.plain.specs.Commands.{programIsSuspended, inSuspendedErase, written, effected}
+use Rattle.plain.specs.Lent.{Lent}
 use Rattle.plain.specs.Machine.{step}
 use Rattle.plain.specs.Operations.{runningInside, runningOf, suspensionOf}
 use Rattle.plain.specs.SuspendedProgram.{programRests, ProgramsTakeNoWrite}
@@ -28,20 +29,20 @@ unfolding runningInside inSuspendedErase
 inside-busy Nothing q x e = cc
 inside-busy (Runs r) q x e = refl
 
-program-busy : (p : Part) (bits : Protection) (o : Operation) (c : Command) (a w : ℕ) (q : Program) → runningOf o ≡ Programs q → written p bits o c a w ≡ Stays Busy
+program-busy : (p : Part) (bits : Protection) (o : Operation) (c : Command) (l : Lent) (a w : ℕ) (q : Program) → runningOf o ≡ Programs q → written p bits o c l a w ≡ Stays Busy
 unfolding runningOf written
-program-busy p bits Idle c a w q e = cc
-program-busy p bits (Programming r) c a w q e = refl
-program-busy p bits (ProgramSuspended r) c a w q e = cc
-program-busy p bits (Window x) c a w q e = cc
-program-busy p bits (Erasing x) c a w q e = cc
-program-busy p bits (EraseSuspended s) c a w q e = inside-busy (s .inside) q _ e
-program-busy p bits (ChipErasing x) c a w q e = cc
+program-busy p bits Idle c l a w q e = cc
+program-busy p bits (Programming r) c l a w q e = refl
+program-busy p bits (ProgramSuspended r) c l a w q e = cc
+program-busy p bits (Window x) c l a w q e = cc
+program-busy p bits (Erasing x) c l a w q e = cc
+program-busy p bits (EraseSuspended s) c l a w q e = inside-busy (s .inside) q _ e
+program-busy p bits (ChipErasing x) c l a w q e = cc
 
 pub programs-take-no-write : (p : Part) → ProgramsTakeNoWrite p
 unfolding step effected
 programs-take-no-write p r l q a w f h e =
-    rw (write-passes p r l a w f h, program-busy p (r .bits) (r .operation) (r .command) a w q e)
+    rw (write-passes p r l a w f h, program-busy p (r .bits) (r .operation) (r .command) l a w q e)
 
 -- ---- time
 

@@ -37,3 +37,11 @@ both a b e f = rw (e, f)
 
 pub neither : (a b : Bool) → a ≡ false → b ≡ false → (a || b) ≡ false
 neither a b e f = rw (e, f)
+
+pub neither-left : (a b : Bool) → (a || b) ≡ false → a ≡ false
+neither-left true b e = e
+neither-left false b e = refl
+
+pub neither-right : (a b : Bool) → (a || b) ≡ false → b ≡ false
+neither-right true b e = absurd (true≢false e)
+neither-right false b e = e

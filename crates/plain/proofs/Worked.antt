@@ -7,6 +7,7 @@ use mathlib.Core.List.{List, [], _∷_, map}
 use lib.Dec.{eqb}
 use lib.ListN.{length, replicate, length-set, length-replicate}
 use Rattle.blocks.specs.Blocks.{has, pack, setOf, some, seek}
+use Rattle.cells.specs.Cells as cells
 use Rattle.cells.specs.Cells.{programmed, erased, littered, cutShort}
 use Rattle.geometry.specs.declared.Part.the-variants.{Small}
 use Rattle.geometry.specs.Parts.{wordCount, blockCount, bankCount, unitOf, sizeIn, firstIn, blockIn, bankOf, bankIn, bankOfBlock}
@@ -15,11 +16,11 @@ use Rattle.protection.specs.Protection.{protectedBy, unprotected}
 use Rattle.plain.specs.Refusals.{number}
 use Rattle.plain.specs.Figures.{programTime, windowTime, eraseTime, chipTime, runningCurrent, standbyCurrent, clockLimit}
 use Rattle.plain.specs.Lent.{lent, isWhole}
-use Rattle.plain.specs.Programs.{writes, datum, firstWord, liesIn, blockWritten, bankWritten, dq7, finished, debrisWords, debrisFor, cutOff}
+use Rattle.plain.specs.Programs.{writes, datum, firstWord, liesIn, blockWritten, bankWritten, dq7, raises, finished, debrisWords, debrisFor, cutOff}
 use Rattle.plain.specs.Operations.{runningInside, runningOf, suspensionOf}
 use Rattle.plain.specs.Record.{fresh}
 use Rattle.plain.specs.Sound.{meterSound, programSound, lowest, insideSound, cycleInRange, readingInRange, cycleInSuspension, cycleSound, stillCommand, isGround, isStill, commandSound}
-use Rattle.plain.specs.Commands.{isSuspended, programIsSuspended, resumes, begins, atGround, afterUnlock, afterUnlocked, afterA0, after80, after80Unlock, after80Unlocked, after48, after60, after68, after6060, afterReading, continued, entered, addBlock, inWindow, inSuspendedErase, written, effected}
+use Rattle.plain.specs.Commands.{isSuspended, programIsSuspended, resumes, keepsOut, begins, atGround, afterUnlock, afterUnlocked, afterA0, after80, after80Unlock, after80Unlocked, after48, after60, after68, after6060, afterReading, continued, entered, addBlock, inWindow, inSuspendedErase, written, effected}
 use Rattle.plain.specs.Time.{current, insideTick, operationTick, lentTick, tick, ticks}
 use Rattle.plain.specs.Status.{polls, insidePolled, polled, status, givenAt, givenWord, readingOn, readingWord, rests, restWord, rested, look}
 use Rattle.plain.specs.Cut.{begunBlock, begunInside, begunProgram, wordOf, blockDebris, programDebris, debrisNeeded, blockCut, programCut, cutLent}
@@ -86,14 +87,14 @@ record Computed : Type 0 where
   told : map quickWorked tales ≡ map (λ (w : Work). w .stated) tales
 
 computed : Computed
-unfolding filled has pack setOf some seek programmed erased littered cutShort
+unfolding filled has pack setOf some seek programmed cells.raises erased littered cutShort
     blockCount bankCount unitOf sizeIn firstIn blockIn bankOf bankIn bankOfBlock refusalAsked blockAsked protectedBy unprotected
     number programTime windowTime eraseTime chipTime runningCurrent standbyCurrent clockLimit
-    writes datum firstWord liesIn blockWritten bankWritten dq7 finished debrisWords debrisFor cutOff
+    writes datum firstWord liesIn blockWritten bankWritten dq7 raises finished debrisWords debrisFor cutOff
     runningInside runningOf suspensionOf
     meterSound programSound lowest insideSound
     cycleInRange readingInRange cycleInSuspension cycleSound stillCommand isGround isStill commandSound
-    isSuspended programIsSuspended resumes begins atGround afterUnlock afterUnlocked afterA0 after80 after80Unlock after80Unlocked
+    isSuspended programIsSuspended resumes keepsOut begins atGround afterUnlock afterUnlocked afterA0 after80 after80Unlock after80Unlocked
     after48 after60 after68 after6060 afterReading continued entered addBlock inWindow inSuspendedErase written effected
     current insideTick operationTick lentTick tick
     polls insidePolled polled status givenAt givenWord readingOn readingWord rests restWord rested look

@@ -27,9 +27,12 @@ rowB5 =
 abbrev rowB : Row
 rowB = runs fresh blank (takes (programOf 100 0x1234) ++ waits 5 ++ waits 1 ++ gives 100 0x1234) (holds 100 0x1234 ∷ []) 6 102000
 
--- c: "00FFH programmed over 1234H leaves 0034H."
-abbrev rowC : Row
-rowC = runs fresh (but (holds 100 0x1234 ∷ [])) (takes (programOf 100 0x00FF) ++ waits 6) (holds 100 0x0034 ∷ []) 6 102000
+-- c: document 02, request 6: "Row c of document 01 becomes a refusal; 0034H over 1234H takes its place and leaves 0034H."
+abbrev rowC1 : Row
+rowC1 = runs fresh (but (holds 100 0x1234 ∷ [])) (takes (enters 0xA0) ++ refuses 14 (write 100 0x00FF) ++ waits 6) (holds 100 0x1234 ∷ []) 6 90
+
+abbrev rowC2 : Row
+rowC2 = runs fresh (but (holds 100 0x1234 ∷ [])) (takes (programOf 100 0x0034) ++ waits 6) (holds 100 0x0034 ∷ []) 6 102000
 
 -- d: "Row b cut after 5 µs: debris FF00H leaves FF34H, 0000H leaves 1234H, no debris is DEBRIS. Cut after 0 µs: none needed,
 -- FFFFH stays."
@@ -94,4 +97,4 @@ rowL = runs fresh blank (takes (dybOf 2048 1 ++ eraseOf 64) ++ refuses 8 (write 
 
 abbrev pub bench : List Row
 bench =
-    rowA ∷ rowB5 ∷ rowB ∷ rowC ∷ rowD1 ∷ rowD2 ∷ rowD3 ∷ rowD4 ∷ rowE ∷ rowF ∷ rowG ∷ rowH ∷ rowI ∷ rowJ ∷ rowK1 ∷ rowK2 ∷ rowL ∷ []
+    rowA ∷ rowB5 ∷ rowB ∷ rowC1 ∷ rowC2 ∷ rowD1 ∷ rowD2 ∷ rowD3 ∷ rowD4 ∷ rowE ∷ rowF ∷ rowG ∷ rowH ∷ rowI ∷ rowJ ∷ rowK1 ∷ rowK2 ∷ rowL ∷ []

@@ -7,7 +7,7 @@ use Rattle.geometry.specs.declared.Part.{Part}
 use Rattle.geometry.specs.Parts.{blockOf, bankOf, bankOfBlock}
 use Rattle.protection.specs.declared.Protection.{Protection}
 use Rattle.protection.specs.Protection.{protected, unprotected, allProtected, dybSet, dybCleared, ppbSet, ppbsCleared, locked}
-use Rattle.plain.specs.declared.Refusal.the-variants.{Done, Busy, Sequence, Bank, Protected, Suspended, Locked}
+use Rattle.plain.specs.declared.Refusal.the-variants.{Done, Busy, Sequence, Bank, Protected, Suspended, Locked, Raise}
 use Rattle.plain.specs.declared.Written.{Written}
 use Rattle.plain.specs.declared.Program.{Program}
 use Rattle.plain.specs.declared.Erase.{Erase}
@@ -28,8 +28,9 @@ use Rattle.plain.specs.declared.Device.{Device}
 use Rattle.plain.specs.declared.Answer.{Answer}
 use Rattle.plain.specs.Choice.{if_then_else_}
 use Rattle.plain.specs.Figures.{programTime, windowTime, eraseTime, chipTime}
+use Rattle.plain.specs.Lent.{Lent}
 use Rattle.plain.specs.Record.{device, program, erase, suspended, eraseLeft, answer}
-use Rattle.plain.specs.Programs.{writing, blockWritten}
+use Rattle.plain.specs.Programs.{writing, blockWritten, raises}
 use Rattle.plain.specs.Cycles.{isAt, is, firstUnlock, secondUnlock, isDyb}
 
 -- ---- suspension and commands
@@ -54,13 +55,17 @@ resumes (OfErase e) = Starts (Erasing e)
 abbrev pub started : Part → Written → Program
 started p d = program d (programTime p) false
 
--- "a program works inside a suspended erase, in a block off its list"; "SUSPENDED comes .. at the data write of a program into a
--- listed block"
-unfoldable pub begins : Part → Suspension → Written → Effect
-begins p Unsuspended d = Starts (Programming (started p d))
-begins p (OfProgram q) d = Falls Suspended
-begins p (OfErase e) d =
-    if has (e .list) (blockWritten p d) then Falls Suspended else Starts (EraseSuspended (suspended e (Runs (started p d))))
+-- "SUSPENDED comes .. at the data write of a program into a listed block"; a suspended program lets none begin
+unfoldable pub keepsOut : Part → Suspension → Written → Bool
+keepsOut p Unsuspended d = false
+keepsOut p (OfProgram q) d = true
+keepsOut p (OfErase e) d = has (e .list) (blockWritten p d)
+
+-- "a program works inside a suspended erase"
+unfoldable pub begins : Suspension → Program → Operation
+begins Unsuspended q = Programming q
+begins (OfProgram resting) q = ProgramSuspended resting
+begins (OfErase e) q = EraseSuspended (suspended e (Runs q))
 
 -- ---- the register, state by state: the write of a command's next cycle while nothing runs
 
@@ -97,11 +102,13 @@ afterUnlocked p bits s a w =
     else if is w 0x60 then unless (isSuspended s) (Goes (Entering PpbSetup))
     else Falls Sequence)
 
--- A0H: "the next write is address and all 16 data bits of a program"
-unfoldable pub afterA0 : Part → Protection → Suspension → (a w : ℕ) → Effect
-afterA0 p bits s a w =
+-- A0H: "the next write is address and all 16 data bits of a program"; document 02, request 6: "RAISE, after PROTECTED and SUSPENDED"
+unfoldable pub afterA0 : Part → Protection → Suspension → Lent → (a w : ℕ) → Effect
+afterA0 p bits s l a w =
     if protected bits (blockWritten p (writing a w)) then Falls Protected
-    else begins p s (writing a w)
+    else if keepsOut p s (writing a w) then Falls Suspended
+    else if raises (writing a w) l then Falls Raise
+    else Starts (begins s (started p (writing a w)))
 
 -- 80H: "both unlock writes again"
 unfoldable pub after80 : (a w : ℕ) → Effect
@@ -161,22 +168,22 @@ unfoldable pub afterReading : (w : ℕ) → Effect
 afterReading w = orReset w (Falls Sequence)
 
 -- the next write of a command that is half entered
-unfoldable pub continued : Part → Protection → Suspension → Cycle → (a w : ℕ) → Effect
-continued p bits s Unlock a w = afterUnlock a w
-continued p bits s Unlocked a w = afterUnlocked p bits s a w
-continued p bits s ProgramData a w = afterA0 p bits s a w
-continued p bits s EraseSetup a w = after80 a w
-continued p bits s EraseUnlock a w = after80Unlock a w
-continued p bits s EraseUnlocked a w = after80Unlocked p bits a w
-continued p bits s DybData a w = after48 p bits a w
-continued p bits s PpbSetup a w = after60 p a w
-continued p bits s (PpbSetting b) a w = after68 p bits b a w
-continued p bits s PpbClearing a w = after6060 bits w
+unfoldable pub continued : Part → Protection → Suspension → Cycle → Lent → (a w : ℕ) → Effect
+continued p bits s Unlock l a w = afterUnlock a w
+continued p bits s Unlocked l a w = afterUnlocked p bits s a w
+continued p bits s ProgramData l a w = afterA0 p bits s l a w
+continued p bits s EraseSetup l a w = after80 a w
+continued p bits s EraseUnlock l a w = after80Unlock a w
+continued p bits s EraseUnlocked l a w = after80Unlocked p bits a w
+continued p bits s DybData l a w = after48 p bits a w
+continued p bits s PpbSetup l a w = after60 p a w
+continued p bits s (PpbSetting b) l a w = after68 p bits b a w
+continued p bits s PpbClearing l a w = after6060 bits w
 
-unfoldable pub entered : Part → Protection → Suspension → Command → (a w : ℕ) → Effect
-entered p bits s Ground a w = atGround s a w
-entered p bits s (Entering c) a w = continued p bits s c a w
-entered p bits s (Reads r) a w = afterReading w
+unfoldable pub entered : Part → Protection → Suspension → Command → Lent → (a w : ℕ) → Effect
+entered p bits s Ground l a w = atGround s a w
+entered p bits s (Entering c) l a w = continued p bits s c l a w
+entered p bits s (Reads r) l a w = afterReading w
 
 -- ---- while an operation runs
 
@@ -204,14 +211,14 @@ inSuspendedErase Nothing effect = effect
 inSuspendedErase (Runs q) effect = Stays Busy
 
 -- document 02, request 9: "B0H during any program becomes BUSY."
-unfoldable pub written : Part → Protection → Operation → Command → (a w : ℕ) → Effect
-written p bits Idle c a w = entered p bits Unsuspended c a w
-written p bits (Programming q) c a w = Stays Busy
-written p bits (ProgramSuspended q) c a w = entered p bits (OfProgram q) c a w
-written p bits (Window e) c a w = inWindow p bits e a w
-written p bits (Erasing e) c a w = inErase e w
-written p bits (EraseSuspended s) c a w = inSuspendedErase (s .inside) (entered p bits (OfErase (s .erase)) c a w)
-written p bits (ChipErasing e) c a w = Stays Busy
+unfoldable pub written : Part → Protection → Operation → Command → Lent → (a w : ℕ) → Effect
+written p bits Idle c l a w = entered p bits Unsuspended c l a w
+written p bits (Programming q) c l a w = Stays Busy
+written p bits (ProgramSuspended q) c l a w = entered p bits (OfProgram q) c l a w
+written p bits (Window e) c l a w = inWindow p bits e a w
+written p bits (Erasing e) c l a w = inErase e w
+written p bits (EraseSuspended s) c l a w = inSuspendedErase (s .inside) (entered p bits (OfErase (s .erase)) c l a w)
+written p bits (ChipErasing e) c l a w = Stays Busy
 
 -- ---- the record afterwards (document 01, "Refusals by number", the column "afterwards"); every write gives the word 0
 

@@ -11,7 +11,7 @@ use Rattle.geometry.specs.declared.Part.{Part}
 use Rattle.geometry.specs.Parts.{blockCount, blockOf, bankOf, firstOf, sizeOf}
 use Rattle.protection.specs.Protection.{bits, unprotected}
 use Rattle.plain.specs.declared.Refusal.{Refusal}
-use Rattle.plain.specs.declared.Refusal.the-variants.{Done, State, Cells, Address, Clock, Debris, Busy, Sequence, Bank, Protected, Suspended, Locked}
+use Rattle.plain.specs.declared.Refusal.the-variants.{Done, State, Cells, Address, Clock, Debris, Busy, Sequence, Bank, Protected, Suspended, Locked, Raise}
 use Rattle.plain.specs.declared.Written.{Written}
 use Rattle.plain.specs.declared.Command.{Command}
 use Rattle.plain.specs.declared.Command.the-variants.{Ground, Entering, Reads}
@@ -73,6 +73,7 @@ kind Bank = unheard
 kind Protected = dropped
 kind Suspended = dropped
 kind Locked = dropped
+kind Raise = dropped
 
 -- ---- a microsecond
 

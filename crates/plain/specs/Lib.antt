@@ -19,9 +19,11 @@ pub mod Rows
 pub mod Bench
 pub mod CommandRulings
 pub mod OperationRulings
+pub mod RaiseRulings
 pub mod Rulings
 pub mod SuspendedProgram
 pub mod Stored
+pub mod Raise
 pub mod Judged
 pub mod History
 pub mod Promises

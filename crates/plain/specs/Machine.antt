@@ -68,7 +68,7 @@ unfoldable pub readEvent : Part → Device → Lent → (address : ℕ) → Outc
 readEvent p r l a = ladder p r l (not (ltb a (wordCount p))) Address (readTaken p r l a)
 
 abbrev pub writeTaken : Part → Device → Lent → (address word : ℕ) → Outcome
-writeTaken p r l a w = outcome (effected r (written p (r .bits) (r .operation) (r .command) a w)) l
+writeTaken p r l a w = outcome (effected r (written p (r .bits) (r .operation) (r .command) l a w)) l
 
 unfoldable pub writeEvent : Part → Device → Lent → (address word : ℕ) → Outcome
 writeEvent p r l a w = ladder p r l (not (ltb a (wordCount p))) Address (writeTaken p r l a w)

@@ -7,7 +7,7 @@ use Rattle.blocks.specs.Blocks.{withOf}
 use Rattle.protection.specs.Protection.{freshBits}
 use Rattle.plain.specs.declared.Inside.{Inside}
 use Rattle.plain.specs.declared.Inside.the-variants.{Nothing, Runs}
-use Rattle.plain.specs.declared.Operation.the-variants.{ProgramSuspended, Erasing, EraseSuspended, ChipErasing}
+use Rattle.plain.specs.declared.Operation.the-variants.{Programming, ProgramSuspended, Erasing, EraseSuspended, ChipErasing}
 use Rattle.plain.specs.declared.Command.the-variants.{Ground}
 use Rattle.plain.specs.declared.Device.{Device}
 use Rattle.plain.specs.Events.{write, wait, cut}
@@ -112,9 +112,9 @@ abbrev restingProgram : Row
 restingProgram =
     runs (standing Ground (ProgramSuspended (program (writing 100 0x0080) 4 false)) freshBits) blank (gives 100 0x44 ++ gives 64 0x44 ++ gives 127 0x44 ++ gives 128 0xFFFF) [] 0 0
 
--- DQ7 is of the written data, not of what the cell will hold
+-- DQ7 is of the written data, not of what the cell will hold: a stored program, over a word that takes no bit of it
 abbrev dq7OfData : Row
-dq7OfData = runs fresh (but (holds 100 0 ∷ [])) (takes (programOf 100 0x0080) ++ gives 100 0x44) [] 0 0
+dq7OfData = runs (standing Ground (Programming (program (writing 100 0x0080) 6 false)) freshBits) (but (holds 100 0 ∷ [])) (gives 100 0x44) [] 0 0
 
 -- a program inside a suspended erase: its own bank reads its status and leaves the erase's DQ2
 abbrev insideOwnBank : Row
@@ -156,7 +156,7 @@ debrisFromFirst =
 
 -- "old" in a cut program's word is the cell at the cut
 abbrev oldAtCut : Row
-oldAtCut = runs fresh (but (holds 100 0x0F0F ∷ [])) (takes (programOf 100 0x1234 ++ (wait 1 ∷ cut (0xFF00 ∷ []) ∷ []))) (holds 100 0x0F04 ∷ []) 1 17000
+oldAtCut = runs fresh (but (holds 100 0x0F0F ∷ [])) (takes (programOf 100 0x0204 ++ (wait 1 ∷ cut (0xFF00 ∷ []) ∷ []))) (holds 100 0x0F04 ∷ []) 1 17000
 
 -- with no begun erase the program's debris word is the first
 abbrev programsDebris : Row

@@ -4,11 +4,12 @@ use mathlib.Core.Bool.{Bool}
 use mathlib.Core.List.{List}
 use lib.Dec.{ltb, eqb}
 use lib.ListN.{getD}
+use Rattle.cells.specs.Cells as cells
 use Rattle.cells.specs.Cells.{programmed, cutShort}
 use Rattle.geometry.specs.declared.Part.{Part}
 use Rattle.geometry.specs.Parts.{wordCount, blockOf, bankOf}
 use Rattle.plain.specs.declared.Written.{Written}
-use Rattle.plain.specs.Lent.{Lent, withCells}
+use Rattle.plain.specs.Lent.{Lent, withCells, cellAt}
 
 -- A0H: "the next write is address and all 16 data bits of a program"
 abbrev pub writing : (address word : ℕ) → Written
@@ -38,6 +39,10 @@ bankWritten p d = bankOf p (d .at)
 -- "Program: DQ7 is the complement of data bit 7"
 unfoldable pub dq7 : Written → Bool
 dq7 d = eqb (d .word / 128 % 2) 0
+
+-- document 02, request 6: "asked for a 1 where the cell has 0", by what the lent word holds now
+unfoldable pub raises : Written → Lent → Bool
+raises d l = cells.raises (cellAt l (d .at)) (d .word)
 
 -- "A program .. leaves old AND data."
 unfoldable pub finished : Written → Lent → Lent

@@ -1,8 +1,9 @@
 -- Demand 3 and what stands beside it, as statements over every run of a fresh device.
 use Prim.Native.Nat.{ℕ, _-_, _<_, _≤_}
 use mathlib.Core.Path.{_≡_}
-use mathlib.Core.Bool.{true, false}
-use mathlib.Core.List.{List}
+use mathlib.Core.Bool.{Bool, true, false}
+use mathlib.Core.List.{List, _∷_}
+use lib.Dec.{eqb}
 use lib.ListN.{length, getD}
 use Rattle.blocks.specs.declared.Blocks.{Blocks}
 use Rattle.blocks.specs.Blocks.{emptyOf}
@@ -18,7 +19,7 @@ use Rattle.plain.specs.declared.Command.the-variants.{Ground}
 use Rattle.plain.specs.declared.Device.{Device}
 use Rattle.plain.specs.Cut.{debrisNeeded}
 use Rattle.plain.specs.Events.{Event, cut}
-use Rattle.plain.specs.History.{Doing, programs, erases, wipes, rests, programsIn, Told, history, holds}
+use Rattle.plain.specs.History.{Fact, programDone, eraseDone, programCut, eraseCut, Doing, programs, erases, wipes, rests, programsIn, Told, history, holds}
 use Rattle.plain.specs.Machine.{step, run}
 use Rattle.plain.specs.Lent.{Lent, cellAt}
 use Rattle.plain.specs.Programs.{writes, datum}
@@ -92,6 +93,28 @@ abbrev pub Holding : Part → Type 0
 Holding p =
     (start : Lent) (es : List Event) (x : ℕ) → x < wordCount p
     → cellAt (run p fresh start es .lent) x ≡ holds p start (history p (run p fresh start es .turns) .facts) x
+
+-- ---- document 02, request 6: a program that was taken and finished left its data
+
+-- the word was programmed, its block was erased, or a cut hit one or the other
+unfoldable pub touches : Part → Fact → (x : ℕ) → Bool
+touches p (programDone d) x = writes d x
+touches p (eraseDone b) x = eqb (blockOf p x) b
+touches p (programCut d debris) x = writes d x
+touches p (eraseCut b debris) x = eqb (blockOf p x) b
+
+-- the last that came to pass for the word at x is the end of this program
+pub data LastEnded (p : Part) (x : ℕ) (d : Written) : List Fact → Type 0 where
+  ended : {fs : List Fact} → writes d x ≡ true → LastEnded p x d (programDone d ∷ fs)
+  since : {f : Fact} {fs : List Fact} → touches p f x ≡ false → LastEnded p x d fs → LastEnded p x d (f ∷ fs)
+
+-- then the word holds exactly the data of that program
+abbrev pub ProgramsLeaveData : Part → Type 0
+ProgramsLeaveData p =
+    (start : Lent) (es : List Event) (x : ℕ) (d : Written) → x < wordCount p → LastEnded p x d (history p (run p fresh start es .turns) .facts)
+    → cellAt (run p fresh start es .lent) x ≡ datum d x
+
+-- ---- time and charge
 
 -- the record's clock and charge are what the history of accepted waits gives, its DYBs and PPBs those that were told of
 pub record Agrees (h : Told) (r : Device) : Type 0 where

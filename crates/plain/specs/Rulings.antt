@@ -16,6 +16,7 @@ use Rattle.plain.specs.CommandRulings.{commandRulings}
 use Rattle.plain.specs.Events.{Event, read, write, wait, cut}
 use Rattle.plain.specs.OperationRulings.{operationRulings}
 use Rattle.plain.specs.Programs.{writing}
+use Rattle.plain.specs.RaiseRulings.{raiseRulings}
 use Rattle.plain.specs.Record.{program, erase, suspended, fresh}
 use Rattle.plain.specs.Rows.{Row, lookups, runs, takes, waits, gives, refuses, lies, past, holds, blank, but, unlock, enters, programOf, eraseOf, dybOf, dybGives, suspendedThird, metered, standing, guarded, only, resting}
 
@@ -181,4 +182,4 @@ rulings =
     ∷ identityBank4 ∷ ppbBlock270 ∷ progressAtClock0 ∷ chargeAtBound ∷ chargePastBound ∷ clockPastLimit ∷ chipListSmaller ∷ finishedNotBlank
     ∷ halfEnteredInside ∷ pastA0Suspended ∷ past48Suspended ∷ addressKeepsCommand ∷ sequenceBeginsNothing ∷ sequenceResumesNothing
     ∷ sequenceEndsReading ∷ windowF0 ∷ busyInEveryBank ∷ clockWholeWait ∷ protectedProgram ∷ refusedRead ∷ suspendedStands
-    ∷ commandRulings ++ operationRulings
+    ∷ commandRulings ++ raiseRulings ++ operationRulings

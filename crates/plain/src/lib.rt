@@ -19,6 +19,7 @@ pub enum Refusal {
     Protected,
     Suspended,
     Locked,
+    Raise,
 }
 
 // What a program writes: "address and all 16 data bits". Who asks of it goes by Programs, and takes it apart nowhere else.

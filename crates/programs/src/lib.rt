@@ -5,7 +5,7 @@ ghost use Prim.Native.Nat.{_≤_};
 ghost use lib.ListN.{length};
 ghost use Rattle.geometry.specs.Parts.{wordCount};
 ghost use Rattle.plain.specs.Lent.{lent};
-ghost use Rattle.plain.specs.Programs.{writing, firstWord, liesIn, blockWritten, bankWritten, dq7, finished, debrisWords, cutOff};
+ghost use Rattle.plain.specs.Programs.{writing, firstWord, liesIn, blockWritten, bankWritten, dq7, raises, finished, debrisWords, cutOff};
 use geometry::Part;
 use plain::Written;
 
@@ -49,6 +49,14 @@ pub fn dq7(written: Written) -> bool
     ensures { λ r. ⌜ r ≡ dq7 written ⌝ }
 {
     written.word / 128 % 2 == 0
+}
+
+// Document 02, request 6: "asked for a 1 where the cell has 0", by what the lent word holds now.
+pub fn raises(written: Written, cells: &[u16]) -> bool
+    ensures { λ r. ⌜ r ≡ raises written (lent (now (cells .entry))) ⌝ }
+{
+    let at = written.at;
+    cells::raises(cells, at, written.word)
 }
 
 // "A program .. leaves old AND data."

@@ -3,6 +3,7 @@
 ghost use mathlib.Core.Path.{_≡_};
 ghost use Rattle.plain.specs.Record.{device, answer};
 ghost use Rattle.plain.specs.Commands.{inErase, written, effected};
+ghost use Rattle.plain.specs.Lent.{lent};
 use decoder::entered;
 use geometry::Part;
 use meter::Meter;
@@ -25,17 +26,26 @@ pub fn written(
     bits: Protection,
     operation: Operation,
     command: Command,
+    cells: &[u16],
     address: usize,
     word: u16,
 ) -> Effect
-    ensures { λ r. ⌜ r ≡ written part bits operation command address word ⌝ }
+    ensures { λ r. ⌜ r ≡ written part bits operation command (lent (now (cells .entry))) address word ⌝ }
 {
     match operation {
-        Operation::Idle => entered(part, bits, Suspension::Unsuspended, command, address, word),
+        Operation::Idle => entered(
+            part,
+            bits,
+            Suspension::Unsuspended,
+            command,
+            cells,
+            address,
+            word,
+        ),
         Operation::Programming(_) => Effect::Stays(Refusal::Busy),
         Operation::ProgramSuspended(program) => {
             let suspension = Suspension::OfProgram(program);
-            entered(part, bits, suspension, command, address, word)
+            entered(part, bits, suspension, command, cells, address, word)
         }
         Operation::Window(erase) => in_window(part, bits, erase, address, word),
         Operation::Erasing(erase) => in_erase(erase, word),
@@ -44,7 +54,7 @@ pub fn written(
             let suspension = Suspension::OfErase(erase);
             let inside = suspended.inside;
             match inside {
-                Inside::Nothing => entered(part, bits, suspension, command, address, word),
+                Inside::Nothing => entered(part, bits, suspension, command, cells, address, word),
                 Inside::Runs(_) => Effect::Stays(Refusal::Busy),
             }
         }

@@ -1,6 +1,7 @@
 // The writes that start or resume an operation (document 01, "Command cycles").
 ghost use mathlib.Core.Path.{_≡_};
 ghost use Rattle.plain.specs.Commands.{resumes, afterA0, after80Unlocked};
+ghost use Rattle.plain.specs.Lent.{lent};
 use cycles::is_cycle;
 use geometry::Part;
 use plain::Command;
@@ -9,6 +10,7 @@ use plain::Operation;
 use plain::Refusal;
 use plain::Suspension;
 use programs::block_written;
+use programs::raises;
 use programs::writing;
 use protection::Protection;
 
@@ -18,6 +20,8 @@ mod programming;
 use erases::block_erase;
 use erases::chip_erase;
 use programming::begins;
+use programming::keeps_out;
+use programming::started;
 
 // "In suspension 30H at any address resumes from ground"
 pub fn resumes(suspension: Suspension) -> Effect
@@ -30,21 +34,28 @@ pub fn resumes(suspension: Suspension) -> Effect
     }
 }
 
-// A0H, then a data cycle, where F0H is data: "address and all 16 data bits of a program".
+// A0H, then a data cycle, where F0H is data: "address and all 16 data bits of a program". "RAISE, after PROTECTED and SUSPENDED".
 pub fn after_a0(
     part: Part,
     bits: Protection,
     suspension: Suspension,
+    cells: &[u16],
     address: usize,
     word: u16,
 ) -> Effect
-    ensures { λ r. ⌜ r ≡ afterA0 part bits suspension address word ⌝ }
+    ensures { λ r. ⌜ r ≡ afterA0 part bits suspension (lent (now (cells .entry))) address word ⌝ }
 {
     let written = writing(address, word);
     if bits.is_protected(block_written(part, written)) {
         return Effect::Falls(Refusal::Protected);
     }
-    begins(part, suspension, written)
+    if keeps_out(part, suspension, written) {
+        return Effect::Falls(Refusal::Suspended);
+    }
+    if raises(written, cells) {
+        return Effect::Falls(Refusal::Raise);
+    }
+    Effect::Starts(begins(suspension, started(part, written)))
 }
 
 // "10H at 555H (chip erase) or 30H at any address of a block (block erase)"

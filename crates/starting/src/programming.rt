@@ -1,39 +1,46 @@
 // A program begins.
 ghost use mathlib.Core.Path.{_≡_};
-ghost use Rattle.plain.specs.Commands.{started, begins};
+ghost use Rattle.plain.specs.Commands.{keepsOut, started, begins};
 use geometry::Part;
-use plain::Effect;
 use plain::Inside;
 use plain::Operation;
 use plain::Program;
-use plain::Refusal;
 use plain::SuspendedErase;
 use plain::Suspension;
 use plain::Written;
 use plain::figures;
 use programs::block_written;
 
-// "a program works inside a suspended erase, in a block off its list"; into a listed block it is SUSPENDED.
-pub fn begins(part: Part, suspension: Suspension, written: Written) -> Effect
-    ensures { λ r. ⌜ r ≡ begins part suspension written ⌝ }
+// Is it "a program into a listed block"? A suspended program lets none begin.
+pub fn keeps_out(part: Part, suspension: Suspension, written: Written) -> bool
+    ensures { λ r. ⌜ r ≡ keepsOut part suspension written ⌝ }
 {
     match suspension {
-        Suspension::Unsuspended => Effect::Starts(Operation::Programming(started(part, written))),
-        Suspension::OfProgram(_) => Effect::Falls(Refusal::Suspended),
+        Suspension::Unsuspended => false,
+        Suspension::OfProgram(_) => true,
         Suspension::OfErase(erase) => {
-            if erase.list.has(block_written(part, written)) {
-                return Effect::Falls(Refusal::Suspended);
-            }
-            Effect::Starts(Operation::EraseSuspended(SuspendedErase {
-                erase: erase,
-                inside: Inside::Runs(started(part, written)),
-            }))
+            let list = erase.list;
+            list.has(block_written(part, written))
         }
     }
 }
 
+// "a program works inside a suspended erase"
+pub fn begins(suspension: Suspension, program: Program) -> Operation
+    ensures { λ r. ⌜ r ≡ begins suspension program ⌝ }
+{
+    match suspension {
+        Suspension::Unsuspended => Operation::Programming(program),
+        Suspension::OfProgram(resting) => Operation::ProgramSuspended(resting),
+        Suspension::OfErase(erase) => Operation::EraseSuspended(SuspendedErase {
+            erase: erase,
+            inside: Inside::Runs(program),
+        }),
+    }
+}
+
 // A program with all its time before it.
-fn started(part: Part, written: Written) -> Program
+pub fn started(part: Part, written: Written) -> Program
     ensures { λ r. ⌜ r ≡ started part written ⌝ }
 {
     Program {

@@ -6,6 +6,7 @@ use mathlib.Core.List.{List, [], _∷_, map}
 use lib.ListN.{length-replicate}
 use borrow.Author.Tests.{eq-eqb}
 use Rattle.blocks.specs.Blocks.{has, pack, setOf, some, seek}
+use Rattle.cells.specs.Cells as cells
 use Rattle.cells.specs.Cells.{programmed, erased}
 use Rattle.geometry.specs.declared.Part.the-variants.{Small}
 use Rattle.geometry.specs.Parts.{blockCount, bankCount, unitOf, sizeIn, firstIn, blockIn, bankOf, bankIn, bankOfBlock}
@@ -13,10 +14,10 @@ use Rattle.protection.specs.Protection.{protectedBy, unprotected}
 use Rattle.plain.specs.Refusals.{number}
 use Rattle.plain.specs.Figures.{programTime, windowTime, eraseTime, chipTime, runningCurrent, standbyCurrent, clockLimit}
 use Rattle.plain.specs.Lent.{isWhole}
-use Rattle.plain.specs.Programs.{firstWord, liesIn, blockWritten, bankWritten, finished, debrisWords}
+use Rattle.plain.specs.Programs.{firstWord, liesIn, blockWritten, bankWritten, raises, finished, debrisWords}
 use Rattle.plain.specs.Operations.{runningInside, runningOf, suspensionOf}
 use Rattle.plain.specs.Sound.{meterSound, programSound, listSound, chipListSound, lowest, insideSound, operationSound, cycleInRange, readingInRange, cycleInSuspension, cycleSound, stillCommand, isGround, isStill, commandSound, sound}
-use Rattle.plain.specs.Commands.{isSuspended, programIsSuspended, resumes, begins, atGround, afterUnlock, afterUnlocked, afterA0, after80, after80Unlock, after80Unlocked, after48, after60, after68, after6060, afterReading, continued, entered, addBlock, inWindow, inSuspendedErase, written, effected}
+use Rattle.plain.specs.Commands.{isSuspended, programIsSuspended, resumes, keepsOut, begins, atGround, afterUnlock, afterUnlocked, afterA0, after80, after80Unlock, after80Unlocked, after48, after60, after68, after6060, afterReading, continued, entered, addBlock, inWindow, inSuspendedErase, written, effected}
 use Rattle.plain.specs.Time.{current, insideTick, operationTick, lentTick, tick, ticks}
 use Rattle.plain.specs.Cut.{begunBlock, begunInside, begunProgram, blockDebris, programDebris, debrisNeeded}
 use Rattle.plain.specs.Machine.{Ran, climbed}
@@ -46,14 +47,14 @@ record Computed : Type 0 where
   unsounds : map quickFound unsound ≡ map (λ (m : Moment). m .stated) unsound
 
 computed : Computed
-unfolding has pack setOf some seek programmed erased
+unfolding has pack setOf some seek programmed cells.raises erased
     blockCount bankCount unitOf sizeIn firstIn blockIn bankOf bankIn bankOfBlock protectedBy unprotected
     number programTime windowTime eraseTime chipTime runningCurrent standbyCurrent clockLimit
-    firstWord liesIn blockWritten bankWritten finished debrisWords
+    firstWord liesIn blockWritten bankWritten raises finished debrisWords
     runningInside runningOf suspensionOf
     meterSound programSound listSound chipListSound lowest insideSound operationSound
     cycleInRange readingInRange cycleInSuspension cycleSound stillCommand isGround isStill commandSound sound
-    isSuspended programIsSuspended resumes begins atGround afterUnlock afterUnlocked afterA0 after80 after80Unlock after80Unlocked
+    isSuspended programIsSuspended resumes keepsOut begins atGround afterUnlock afterUnlocked afterA0 after80 after80Unlock after80Unlocked
     after48 after60 after68 after6060 afterReading continued entered addBlock inWindow inSuspendedErase written effected
     current insideTick operationTick lentTick tick
     begunBlock begunInside begunProgram blockDebris programDebris debrisNeeded

@@ -16,6 +16,6 @@ write-spec =
     (λ c κs. search needs)  -- entry-requires
     (λ c. search needs)  -- enum-known-entry
     (λ c. search needs)  -- enum-told
-    (λ c κs. search needs)  -- admitted-write-requires
+    (λ c κs. admitted _ _ _ (sym (c .before .before .entry .ensures _ (c .before .before .before .is-sound .ensures)) ∙ c .enum-told .given .1))  -- admitted-write-requires
     (λ c. answers (write-barred _ _ _ _ _ _ (sym (c .before .before .before .entry .ensures _ (c .before .before .before .before .is-sound .ensures)) ∙ c .before .entry2 .given .1)))  -- returns
-    (λ c. c .admitted-write .ensures _ (admitted _ _ _ (sym (c .before .before .before .entry .ensures _ (c .before .before .before .before .is-sound .ensures)) ∙ c .before .enum-told .given .1))))  -- returns-2
+    (λ c. search needs))  -- returns-2

@@ -20,6 +20,7 @@ number-of-spec =
     (λ c. search needs)  -- enum-told-10
     (λ c. search needs)  -- enum-told-11
     (λ c. search needs)  -- enum-told-12
+    (λ c. search needs)  -- enum-told-13
     (λ c. search needs)  -- returns
     (λ c. search needs)  -- returns-2
     (λ c. search needs)  -- returns-3
@@ -31,4 +32,5 @@ number-of-spec =
     (λ c. search needs)  -- returns-9
     (λ c. search needs)  -- returns-10
     (λ c. search needs)  -- returns-11
-    (λ c. search needs))  -- returns-12
+    (λ c. search needs)  -- returns-12
+    (λ c. search needs))  -- returns-13

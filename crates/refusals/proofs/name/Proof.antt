@@ -45,6 +45,9 @@ name-spec =
     (λ c. search needs)  -- enum-told-12
     (λ c. search needs)  -- slice-aggregate-bytes-12
     (λ c κs. search needs)  -- bytes-requires-12
+    (λ c. search needs)  -- enum-told-13
+    (λ c. search needs)  -- slice-aggregate-bytes-13
+    (λ c κs. search needs)  -- bytes-requires-13
     (λ c. search needs)  -- same-length
     (λ c. (rw (c .before .before .before .before .before .enum-told .given .1) (c .before .before .bytes .ensures), omega arith))  -- returns
     (λ c. search needs)  -- same-length-2
@@ -68,4 +71,6 @@ name-spec =
     (λ c. search needs)  -- same-length-11
     (λ c. (rw (c .before .before .before .before .before .enum-told11 .given .1) (c .before .before .bytes11 .ensures), omega arith))  -- returns-11
     (λ c. search needs)  -- same-length-12
-    (λ c. (rw (c .before .before .before .before .before .enum-told12 .given .1) (c .before .before .bytes12 .ensures), omega arith)))  -- returns-12
+    (λ c. (rw (c .before .before .before .before .before .enum-told12 .given .1) (c .before .before .bytes12 .ensures), omega arith))  -- returns-12
+    (λ c. search needs)  -- same-length-13
+    (λ c. (rw (c .before .before .before .before .before .enum-told13 .given .1) (c .before .before .bytes13 .ensures), omega arith)))  -- returns-13

@@ -1,0 +1,109 @@
+-- What a finished program left in its word stays there until something else befalls it: kept by every fact that comes.
+use Prim.Native.Nat.{ℕ, suc, _-_, _<_}
+use mathlib.Core.Path.{_≡_, _∙_}
+use mathlib.Core.Bool.{false}
+use mathlib.Core.List.{List, [], _∷_}
+use native.Mathlib.Omega.{arith}
+use lib.Dec.{eqb, ltb}
+use lib.ListN.{length}
+use Rattle.geometry.specs.declared.Part.{Part}
+use Rattle.geometry.specs.Parts.{wordCount}
+use Rattle.plain.specs.declared.Written.{Written}
+use Rattle.plain.specs.declared.Erase.{Erase}
+use Rattle.plain.specs.declared.Inside.{Inside}
+use Rattle.plain.specs.declared.Inside.the-variants.{Nothing, Runs}
+use Rattle.plain.specs.declared.Operation.{Operation}
+use Rattle.plain.specs.declared.Operation.the-variants.{Idle, Programming, ProgramSuspended, Window, Erasing, EraseSuspended, ChipErasing}
+use Rattle.plain.specs.Figures.{programTime, eraseTime, chipTime}
+use Rattle.plain.specs.Lent.{Lent}
+use Rattle.plain.specs.Programs.{writes, datum, raises}
+use Rattle.plain.specs.History.{Fact, programDone, eraseDone, programCut, eraseCut, Doing, nothing, programs, waits, erases, wipes, rests, programsIn, comes, eraseCuts, programCuts, cuts, afterFact, holds}
+use Rattle.plain.specs.Promises.{touches, LastEnded, ended, since}
+use Rattle.plain.proofs.Modest.{raisesInside, raisesIn, Modest}
+use Rattle.plain.proofs.Programs.{modest-leaves}
+use Rattle.plain.proofs.Tools.{by-test}
+use Rattle.history.proofs.Holds.{Holds}
+use Rattle.history.proofs.Seen.{seenInside, seenOp}
+
+unfoldable pub Leaves : Part → (start : Lent) → List Fact → Type 0
+Leaves p start fs = (x : ℕ) (d : Written) → x < wordCount p → LastEnded p x d fs → holds p start fs x ≡ datum d x
+
+-- ---- no fact
+
+some-ended : {p : Part} {x : ℕ} {d : Written} (fs : List Fact) → LastEnded p x d fs → 0 < length fs
+some-ended (f ∷ fs) last = omega arith
+
+pub none-leave : (p : Part) (start : Lent) → Leaves p start []
+unfolding Leaves
+none-leave p start x d hx last = absurd (omega (arith, some-ended [] last))
+
+-- ---- one fact more
+
+-- what does not touch a word leaves it as it was
+untouched : (p : Part) (f : Fact) (x old : ℕ) → touches p f x ≡ false → afterFact p f x old ≡ old
+unfolding touches afterFact
+untouched p (programDone d) x old e = rw e
+untouched p (eraseDone b) x old e = rw e
+untouched p (programCut d debris) x old e = rw e
+untouched p (eraseCut b debris) x old e = rw e
+
+module _ (p : Part) (start : Lent) (fs : List Fact) (k : Leaves p start fs) where
+  -- what was left before, and is not touched now
+  still : (f : Fact) (x : ℕ) (d : Written) → x < wordCount p → touches p f x ≡ false → LastEnded p x d fs → afterFact p f x (holds p start fs x) ≡ datum d x
+  unfolding Leaves
+  still f x d hx t before = untouched p f x _ t ∙ k x d hx before
+
+  erase-leaves : (b : ℕ) → Leaves p start (eraseDone b ∷ fs)
+  unfolding Leaves holds
+  erase-leaves b x d hx (since t before) = still _ x d hx t before
+
+  program-cut-leaves : (n : Written) (debris : List ℕ) → Leaves p start (programCut n debris ∷ fs)
+  unfolding Leaves holds
+  program-cut-leaves n debris x d hx (since t before) = still _ x d hx t before
+
+  erase-cut-leaves : (b : ℕ) (debris : List ℕ) → Leaves p start (eraseCut b debris ∷ fs)
+  unfolding Leaves holds
+  erase-cut-leaves b debris x d hx (since t before) = still _ x d hx t before
+
+  -- a program that asked for no 1 where the word had a 0 leaves its data
+  program-leaves : (l : Lent) → Holds p start fs l → (n : Written) → raises n l ≡ false → Leaves p start (programDone n ∷ fs)
+  unfolding Leaves Holds holds afterFact
+  program-leaves l h n modest x d hx (ended t) = rw (t, ← h x hx) (modest-leaves p n l modest x t)
+  program-leaves l h n modest x d hx (since t before) = still (programDone n) x d hx t before
+
+-- ---- a microsecond, and a cut
+
+module _ (p : Part) (start : Lent) (fs : List Fact) (l : Lent) (h : Holds p start fs l) (k : Leaves p start fs) where
+  inside-leaves : (e : Erase) (i : Inside) → raisesInside l i ≡ false → Leaves p start (comes p (seenInside p e i) fs)
+  unfolding comes seenInside raisesInside
+  inside-leaves e Nothing m = k
+  inside-leaves e (Runs q) m =
+      by-test (Leaves p start) (eqb (suc (programTime p - q .left)) (programTime p)) (λ _. program-leaves p start fs k l h (q .writes) m) (λ _. k)
+
+  pub op-leaves : (o : Operation) → Modest l o → Leaves p start (comes p (seenOp p o) fs)
+  unfolding comes seenOp raisesIn
+  op-leaves Idle m = k
+  op-leaves (Programming q) m =
+      by-test (Leaves p start) (eqb (suc (programTime p - q .left)) (programTime p)) (λ _. program-leaves p start fs k l h (q .writes) m) (λ _. k)
+  op-leaves (ProgramSuspended q) m = k
+  op-leaves (Window e) m = k
+  op-leaves (Erasing e) m = by-test (Leaves p start) (eqb (suc (eraseTime p - e .left)) (eraseTime p)) (λ _. erase-leaves p start fs k (e .hand)) (λ _. k)
+  op-leaves (EraseSuspended s) m = inside-leaves (s .erase) (s .inside) m
+  op-leaves (ChipErasing e) m = by-test (Leaves p start) (eqb (suc (chipTime p - e .left)) (chipTime p)) (λ _. erase-leaves p start fs k (e .hand)) (λ _. k)
+
+module _ (p : Part) (start : Lent) where
+  block-leaves : (g b : ℕ) (debris : List ℕ) (fs : List Fact) → Leaves p start fs → Leaves p start (eraseCuts g b debris fs)
+  block-leaves g b debris fs k = by-test (Leaves p start) (ltb 0 g) (λ _. erase-cut-leaves p start fs k b debris) (λ _. k)
+
+  word-leaves : (g : ℕ) (d : Written) (debris : List ℕ) (fs : List Fact) → Leaves p start fs → Leaves p start (programCuts g d debris fs)
+  word-leaves g d debris fs k = by-test (Leaves p start) (ltb 0 g) (λ _. program-cut-leaves p start fs k d debris) (λ _. k)
+
+  pub cut-leaves : (h : Doing) (debris : List ℕ) (fs : List Fact) → Leaves p start fs → Leaves p start (cuts p h debris fs)
+  unfolding cuts
+  cut-leaves nothing debris fs k = k
+  cut-leaves (programs d g) debris fs k = word-leaves g d debris fs k
+  cut-leaves (waits l b g) debris fs k = k
+  cut-leaves (erases l b g) debris fs k = block-leaves g b debris fs k
+  cut-leaves (wipes l b g) debris fs k = block-leaves g b debris fs k
+  cut-leaves (rests l b g) debris fs k = block-leaves g b debris fs k
+  cut-leaves (programsIn d pg l b g) debris fs k = word-leaves pg d _ _ (block-leaves g b debris fs k)
