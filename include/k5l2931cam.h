@@ -59,7 +59,7 @@ enum {
 /* A program only ever clears bits: it leaves old AND data. Where that would not be the data, the write of the data is K5L_RAISE, after
  * K5L_PROTECTED and K5L_SUSPENDED: no program starts, no status is there to poll, a suspension stands, and no cell, time or charge
  * moves. Erase the block and program it anew; (cells[address] & word) == word tells before whether a program can work. So a program
- * that was taken and ran its time has left exactly its data. It is judged once, at that write, by the cells lent with it. */
+ * that was taken and ran its time has left exactly its data, unless you changed its word meanwhile: it is judged once, at that write. */
 
 /* The parts. */
 enum {
