@@ -1,7 +1,7 @@
 /*
  * A small emulator around the flash chip, to start your own from: a bus that lets time pass, a flash driver as a boot loader
- * has it, a scheduler that knows when to wake it, an updater that forgets an erase, and a battery that fails. It uses the small part:
- * 16,384 words, blocks of 64.
+ * has it, a scheduler that knows when to wake it, an updater that forgets an erase, and a battery that fails in the middle of
+ * one. It uses the small part: 16,384 words, blocks of 64.
  */
 #include "k5l2931cam.h"
 #include "k5l2931cam_print.h"

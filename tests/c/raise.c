@@ -1,7 +1,7 @@
 /*
  * Programs that cannot work (document 02, request 6), over the header: a 1 is asked for where the word has a 0. Each rule by hand on
- * both parts; and a long random run, after each step of which every word whose program was taken and finished, and that nothing
- * has befallen since, holds that program's data.
+ * both parts; and a long random run, all along which every word whose program was taken and finished, and that nothing has
+ * befallen since, holds that program's data.
  */
 #include "dice.h"
 #include "driver.h"
@@ -108,6 +108,12 @@ static void once(void)
 static uint16_t told[K5L_SMALL_WORDS];
 static bool is_told[K5L_SMALL_WORDS];
 
+static void remember(uint64_t address, uint16_t word)
+{
+    told[address] = word;
+    is_told[address] = true;
+}
+
 static void forget(uint64_t block)
 {
     memset(is_told + k5l_first_word(part, block), 0, k5l_block_words(part, block) * sizeof *is_told);
@@ -120,7 +126,7 @@ static void keeps_told(void)
             SAME(cells[i], told[i]);
 }
 
-/* One program, which may be refused, cut short, or finished. */
+/* One program, which may be refused, cut off at any of its microseconds, or finished; and a cut that hits nothing. */
 static void try_program(uint64_t address, uint16_t word)
 {
     uint16_t debris = (uint16_t)dice();
@@ -128,17 +134,14 @@ static void try_program(uint64_t address, uint16_t word)
 
     SAME(program(address, word), works ? K5L_DONE : K5L_RAISE);
     SAME(pass(below(7)), K5L_DONE);
-    if (once_in(20)) {
-        if (exposed_word() != K5L_NONE)
-            is_told[exposed_word()] = false;
-        else if (works && record[OPERATION] == NO_OPERATION)
-            told[address] = word, is_told[address] = true;
+    if (!once_in(20))
+        SAME(pass(6), K5L_DONE);
+    if (works && record[OPERATION] == NO_OPERATION)
+        remember(address, word);
+    if (exposed_word() != K5L_NONE)
+        is_told[exposed_word()] = false;
+    if (record[OPERATION] != NO_OPERATION || once_in(20))
         SAME(cut(&debris, 1), K5L_DONE);
-        return;
-    }
-    SAME(pass(6), K5L_DONE);
-    if (works)
-        told[address] = word, is_told[address] = true;
 }
 
 static void long_run(void)
