@@ -1,7 +1,7 @@
 -- What a finished program left in its word stays there until something else befalls it: kept by every fact that comes.
 use Prim.Native.Nat.{ℕ, suc, _-_, _<_}
-use mathlib.Core.Path.{_≡_, _∙_}
-use mathlib.Core.Bool.{false}
+use mathlib.Core.Path.{_≡_, refl, _∙_}
+use mathlib.Core.Bool.{Bool, true, false}
 use mathlib.Core.List.{List, [], _∷_}
 use native.Mathlib.Omega.{arith}
 use lib.Dec.{eqb, ltb}
@@ -9,11 +9,13 @@ use lib.ListN.{length}
 use Rattle.geometry.specs.declared.Part.{Part}
 use Rattle.geometry.specs.Parts.{wordCount}
 use Rattle.plain.specs.declared.Written.{Written}
+use Rattle.plain.specs.declared.Program.{Program}
 use Rattle.plain.specs.declared.Erase.{Erase}
 use Rattle.plain.specs.declared.Inside.{Inside}
 use Rattle.plain.specs.declared.Inside.the-variants.{Nothing, Runs}
 use Rattle.plain.specs.declared.Operation.{Operation}
 use Rattle.plain.specs.declared.Operation.the-variants.{Idle, Programming, ProgramSuspended, Window, Erasing, EraseSuspended, ChipErasing}
+use Rattle.plain.specs.Choice.{if_then_else_}
 use Rattle.plain.specs.Figures.{programTime, eraseTime, chipTime}
 use Rattle.plain.specs.Lent.{Lent}
 use Rattle.plain.specs.Programs.{writes, datum, raises}
@@ -21,7 +23,7 @@ use Rattle.plain.specs.History.{Fact, programDone, eraseDone, programCut, erase
 use Rattle.plain.specs.Promises.{touches, LastEnded, ended, since}
 use Rattle.plain.proofs.Modest.{raisesInside, raisesIn, Modest}
 use Rattle.plain.proofs.Programs.{modest-leaves}
-use Rattle.plain.proofs.Tools.{by-test}
+use Rattle.plain.proofs.Tools.{by-test, clash}
 use Rattle.history.proofs.Holds.{Holds}
 use Rattle.history.proofs.Seen.{seenInside, seenOp}
 
@@ -39,6 +41,12 @@ none-leave p start x d hx last = absurd (omega (arith, some-ended [] last))
 
 -- ---- one fact more
 
+isEnd : Fact → Bool
+isEnd (programDone d) = true
+isEnd (eraseDone b) = false
+isEnd (programCut d debris) = false
+isEnd (eraseCut b debris) = false
+
 -- what does not touch a word leaves it as it was
 untouched : (p : Part) (f : Fact) (x old : ℕ) → touches p f x ≡ false → afterFact p f x old ≡ old
 unfolding touches afterFact
@@ -53,17 +61,11 @@ module _ (p : Part) (start : Lent) (fs : List Fact) (k : Leaves p start fs) wher
   unfolding Leaves
   still f x d hx t before = untouched p f x _ t ∙ k x d hx before
 
-  erase-leaves : (b : ℕ) → Leaves p start (eraseDone b ∷ fs)
-  unfolding Leaves holds
-  erase-leaves b x d hx (since t before) = still _ x d hx t before
-
-  program-cut-leaves : (n : Written) (debris : List ℕ) → Leaves p start (programCut n debris ∷ fs)
-  unfolding Leaves holds
-  program-cut-leaves n debris x d hx (since t before) = still _ x d hx t before
-
-  erase-cut-leaves : (b : ℕ) (debris : List ℕ) → Leaves p start (eraseCut b debris ∷ fs)
-  unfolding Leaves holds
-  erase-cut-leaves b debris x d hx (since t before) = still _ x d hx t before
+  -- what is no program's end adds none
+  other-leaves : (f : Fact) → isEnd f ≡ false → Leaves p start (f ∷ fs)
+  unfolding Leaves holds isEnd
+  other-leaves f h x d hx (ended t) = clash refl h
+  other-leaves f h x d hx (since t before) = still f x d hx t before
 
   -- a program that asked for no 1 where the word had a 0 leaves its data
   program-leaves : (l : Lent) → Holds p start fs l → (n : Written) → raises n l ≡ false → Leaves p start (programDone n ∷ fs)
@@ -74,29 +76,38 @@ module _ (p : Part) (start : Lent) (fs : List Fact) (k : Leaves p start fs) wher
 -- ---- a microsecond, and a cut
 
 module _ (p : Part) (start : Lent) (fs : List Fact) (l : Lent) (h : Holds p start fs l) (k : Leaves p start fs) where
+  program-goes : (q : Program) → raises (q .writes) l ≡ false
+      → Leaves p start (if eqb (suc (programTime p - q .left)) (programTime p) then programDone (q .writes) ∷ fs else fs)
+  program-goes q m =
+      by-test (Leaves p start) (eqb (suc (programTime p - q .left)) (programTime p)) (λ _. program-leaves p start fs k l h (q .writes) m) (λ _. k)
+
+  erase-goes : (e : Erase) (full : ℕ) → Leaves p start (if eqb (suc (full - e .left)) full then eraseDone (e .hand) ∷ fs else fs)
+  unfolding isEnd
+  erase-goes e full = by-test (Leaves p start) (eqb (suc (full - e .left)) full) (λ _. other-leaves p start fs k (eraseDone (e .hand)) refl) (λ _. k)
+
   inside-leaves : (e : Erase) (i : Inside) → raisesInside l i ≡ false → Leaves p start (comes p (seenInside p e i) fs)
   unfolding comes seenInside raisesInside
   inside-leaves e Nothing m = k
-  inside-leaves e (Runs q) m =
-      by-test (Leaves p start) (eqb (suc (programTime p - q .left)) (programTime p)) (λ _. program-leaves p start fs k l h (q .writes) m) (λ _. k)
+  inside-leaves e (Runs q) m = program-goes q m
 
   pub op-leaves : (o : Operation) → Modest l o → Leaves p start (comes p (seenOp p o) fs)
   unfolding comes seenOp raisesIn
   op-leaves Idle m = k
-  op-leaves (Programming q) m =
-      by-test (Leaves p start) (eqb (suc (programTime p - q .left)) (programTime p)) (λ _. program-leaves p start fs k l h (q .writes) m) (λ _. k)
+  op-leaves (Programming q) m = program-goes q m
   op-leaves (ProgramSuspended q) m = k
   op-leaves (Window e) m = k
-  op-leaves (Erasing e) m = by-test (Leaves p start) (eqb (suc (eraseTime p - e .left)) (eraseTime p)) (λ _. erase-leaves p start fs k (e .hand)) (λ _. k)
+  op-leaves (Erasing e) m = erase-goes e (eraseTime p)
   op-leaves (EraseSuspended s) m = inside-leaves (s .erase) (s .inside) m
-  op-leaves (ChipErasing e) m = by-test (Leaves p start) (eqb (suc (chipTime p - e .left)) (chipTime p)) (λ _. erase-leaves p start fs k (e .hand)) (λ _. k)
+  op-leaves (ChipErasing e) m = erase-goes e (chipTime p)
 
 module _ (p : Part) (start : Lent) where
   block-leaves : (g b : ℕ) (debris : List ℕ) (fs : List Fact) → Leaves p start fs → Leaves p start (eraseCuts g b debris fs)
-  block-leaves g b debris fs k = by-test (Leaves p start) (ltb 0 g) (λ _. erase-cut-leaves p start fs k b debris) (λ _. k)
+  unfolding isEnd
+  block-leaves g b debris fs k = by-test (Leaves p start) (ltb 0 g) (λ _. other-leaves p start fs k (eraseCut b debris) refl) (λ _. k)
 
   word-leaves : (g : ℕ) (d : Written) (debris : List ℕ) (fs : List Fact) → Leaves p start fs → Leaves p start (programCuts g d debris fs)
-  word-leaves g d debris fs k = by-test (Leaves p start) (ltb 0 g) (λ _. program-cut-leaves p start fs k d debris) (λ _. k)
+  unfolding isEnd
+  word-leaves g d debris fs k = by-test (Leaves p start) (ltb 0 g) (λ _. other-leaves p start fs k (programCut d debris) refl) (λ _. k)
 
   pub cut-leaves : (h : Doing) (debris : List ℕ) (fs : List Fact) → Leaves p start fs → Leaves p start (cuts p h debris fs)
   unfolding cuts
