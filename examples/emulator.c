@@ -1,7 +1,7 @@
 /*
  * A small emulator around the flash chip, to start your own from: a bus that lets time pass, a flash driver as a boot loader
- * has it, a scheduler that knows when to wake it, an updater that forgets an erase, and a battery that fails in the middle of
- * one. It uses the small part: 16,384 words, blocks of 64.
+ * has it, a scheduler that knows when to wake it, a device saved and brought back, an updater that forgets an erase, and a battery
+ * that fails in the middle of one. It uses the small part: 16,384 words, blocks of 64.
  */
 #include "k5l2931cam.h"
 #include "k5l2931cam_print.h"
@@ -69,6 +69,41 @@ static bool sleep_until_change(void)
     return true;
 }
 
+/* A saved device is how many words its record has, the record, and the cells. */
+static bool save(FILE *file)
+{
+    const uint64_t words = K5L_RECORD_WORDS;
+
+    return fwrite(&words, sizeof words, 1, file) == 1 && fwrite(chip.record, sizeof chip.record, 1, file) == 1
+        && fwrite(cells, sizeof cells, 1, file) == 1;
+}
+
+/* A record of an earlier version may have fewer words: k5l_carry makes one of today's of it. */
+static bool load(FILE *file)
+{
+    uint64_t words, stored[K5L_RECORD_WORDS];
+
+    return fread(&words, sizeof words, 1, file) == 1 && words <= K5L_RECORD_WORDS
+        && fread(stored, sizeof *stored, words, file) == words
+        && k5l_carry(stored, words, chip.record, K5L_RECORD_WORDS) == K5L_DONE
+        && fread(cells, sizeof cells, 1, file) == 1 && k5l_device_sound(&chip);
+}
+
+static void save_and_load(void)
+{
+    FILE *file = tmpfile();
+
+    printf("save the device, and bring it back:\n");
+    if (file == NULL || !save(file) || fseek(file, 0, SEEK_SET) != 0)
+        printf("  it cannot be saved\n");
+    else if (load(file))
+        printf("  it goes on at %" PRIu64 " us\n", k5l_device_clock(&chip));
+    else
+        printf("  it cannot be brought back\n");
+    if (file != NULL)
+        fclose(file);
+}
+
 /* From here on it is the driver's view: bus cycles, delays and sleep, no more. */
 enum { DQ7 = 0x80, DQ6 = 0x40 };
 
@@ -106,6 +141,15 @@ static void wait_for_erase(uint64_t address)
     if (!(bus_read(address) & DQ7))
         printf("  the erase failed\n");
     printf("  erased after %u polls, at %" PRIu64 " us\n", polls, k5l_device_clock(&chip));
+}
+
+/* An erase takes 20 us to be suspended. Until then its bank shows status, and no write is taken: a 30H that comes too early is lost. */
+static void suspend(uint64_t address)
+{
+    bus_write(address, 0xB0);
+    while (is_busy(address) && sleep_until_change())
+        ;
+    printf("  suspended at %" PRIu64 " us\n", k5l_device_clock(&chip));
 }
 
 /* A program clears bits and sets none: for a 1 where the word has a 0 the block has to be erased first. The chip refuses such a
@@ -161,12 +205,13 @@ static void suspend_and_resume(void)
     printf("erase block 9, at 128, and suspend it after 100 ms:\n");
     start_erase(128);
     let_pass(100000);
-    bus_write(128, 0xB0);
+    suspend(128);
     printf("  word 64, of block 8 in the same bank, is %04X\n", bus_read(64));
     printf("  the suspended block reads %04X", bus_read(128));
     printf(", then %04X: its DQ2 toggles, its DQ6 does not\n", bus_read(128));
     printf("program inside the suspension:\n");
     program(67, 0x5678);
+    save_and_load();
     printf("resume:\n");
     bus_write(128, 0x30);
     wait_for_erase(128);
@@ -202,7 +247,7 @@ int main(void)
     printf("erase block 10, at 192, suspend it, start a program at 68, and lose power:\n");
     start_erase(192);
     let_pass(350000);
-    bus_write(0, 0xB0);
+    suspend(192);
     command(0xA0);
     bus_write(68, 0x0F0F);
     let_pass(3);

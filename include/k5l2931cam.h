@@ -20,9 +20,9 @@
 #include <stddef.h>
 #include <stdint.h>
 
-#define K5L_VERSION "1.1.0"
-#define K5L_VERSION_MAJOR 1
-#define K5L_VERSION_MINOR 1
+#define K5L_VERSION "2.0.0"
+#define K5L_VERSION_MAJOR 2
+#define K5L_VERSION_MINOR 0
 #define K5L_VERSION_PATCH 0
 
 /* On calls whose answer is a refusal that no program should drop. A read is not among them: a bus cycle whose word nobody wants
@@ -41,12 +41,12 @@ extern "C" {
  * five bring the command register back to ground (in the erase window PROTECTED changes nothing, SEQUENCE drops the list). */
 enum {
     K5L_DONE = 0,       /* taken */
-    K5L_STATE = 1,      /* the record is not sound, or not of K5L_RECORD_WORDS words, or there is no such part */
+    K5L_STATE = 1,      /* the record is not sound, of another layout or length (k5l_carry), or there is no such part */
     K5L_CELLS = 2,      /* the length of the cells is not the part's word count */
     K5L_ADDRESS = 3,    /* the address is not below the word count */
     K5L_CLOCK = 4,      /* the wait would take the clock past 100,000,000,000,000 us */
     K5L_DEBRIS = 5,     /* the debris is shorter than the cut needs */
-    K5L_BUSY = 6,       /* a write that the running operation does not take; of a program it is every write, B0H too */
+    K5L_BUSY = 6,       /* a write that what runs does not take: in a program, or in a recovery after B0H, every write */
     K5L_SEQUENCE = 7,   /* a write that continues no command */
     K5L_BANK = 8,       /* a further erase block in another bank */
     K5L_PROTECTED = 9,  /* the block is protected; for a chip erase, every block is */
@@ -60,6 +60,15 @@ enum {
  * K5L_PROTECTED and K5L_SUSPENDED: no program starts, no status is there to poll, a suspension stands, and no cell, time or charge
  * moves. Erase the block and program it anew; (cells[address] & word) == word tells before whether a program can work. So a program
  * that was taken and ran its time has left exactly its data, unless you changed its word meanwhile: it is judged once, at that write. */
+
+/* Suspending takes time. B0H in a block erase that is past its window is taken, and starts 20 us of recovery: the block makes no
+ * progress, running current is drawn, reads in the bank give the erase's status, and every write is K5L_BUSY, be it 30H, F0H or B0H
+ * again. When they are over, the erase is suspended. Other banks read on all along. In the window B0H suspends at once, as ever.
+ *
+ * So a driver that reads the bank right after B0H reads status, no data. Before it does anything else let it wait for 20 us, or poll in
+ * that bank until DQ6 rests; another bank rests at once, and tells nothing. Linux's command set 0002 resumes at once after a suspend when
+ * it finds the block done: such a 30H within the 20 us is K5L_BUSY and lost, and the erase stays suspended. Before 30H, too, poll until
+ * DQ6 rests. */
 
 /* The parts. */
 enum {
@@ -77,8 +86,9 @@ enum {
 };
 
 /*
- * The record, layout 1. It may be stored and brought back: its words mean the same in every later version of this library
- * that knows layout 1. A word that is not in use is 0. (k5l2931cam_print.h prints it in words.)
+ * The record, layout 2. It may be stored and brought back: its words mean the same in every later version of this library that knows
+ * layout 2, and k5l_carry makes a record of that version of them. So it does here of layout 1, which was words 0 to 28. A word that is
+ * not in use is 0. (k5l2931cam_print.h prints the record in words.)
  *
  *   0      the layout's number, K5L_LAYOUT
  *   1      clock, in microseconds
@@ -86,8 +96,8 @@ enum {
  *   3      command register: 0 ground; 1 first and 2 second unlock write taken; 3 A0H; 4 80H; 5 and 6 the unlock writes
  *          after 80H; 7 48H; 8 60H; 9 60H, 68H; 10 60H, 60H; 11 identity reading (90H); 12 58H reading
  *   4      the block of 68H (9), the bank of identity reading (11)
- *   5      operation: 0 none; 1 program; 2 suspended program (below); 3 block erase in its window; 4 block erase;
- *          5 suspended erase; 6 suspended erase with a program running inside; 7 chip erase
+ *   5      operation: 0 none; 1 program; 2 suspended program (below); 3 block erase in its window; 4 block erase past it,
+ *          recovering or not; 5 suspended erase; 6 suspended erase with a program running inside; 7 chip erase
  *   6-10   the listed blocks of an erase: block n is bit n % 64 of word 6 + n / 64
  *   11     the block in hand
  *   12     the microseconds left of it; in the window (3), of the window
@@ -99,13 +109,14 @@ enum {
  *   18-22  the blocks whose DYB is 1, bit by bit as above
  *   23-27  the blocks whose PPB is 1
  *   28     the PPB lock bit
+ *   29     the microseconds left of a block erase's recovery after B0H, 1 to 20; 0 for none, as in every operation but 4
  *
  * No call suspends a program any more, so none makes a 2 of another operation. A record that was stored with one is still
  * sound: its block shows its status, 90H and 58H work, 30H resumes the program, and a cut treats it as it always did.
  */
 enum {
-    K5L_LAYOUT = 1,
-    K5L_RECORD_WORDS = 29
+    K5L_LAYOUT = 2,
+    K5L_RECORD_WORDS = 30
 };
 
 /* No block, no word, no clock, no charge. Nor a bank, nor a time to come. */
@@ -114,6 +125,12 @@ enum {
 /* Makes a fresh device: clock 0, charge 0, no operation, no protection. K5L_DONE; or K5L_STATE for another number of words,
  * and nothing is touched. The cells are yours to fill. */
 uint64_t k5l_fresh(uint64_t *record, size_t words) K5L_MUST_USE;
+
+/* Makes a record of one that was stored, by this version or an earlier one: of layout 1, 29 words, or of layout 2, 30 words; word 0 and
+ * the number of words must agree. The words are copied, those that its layout did not have are 0, and word 0 is K5L_LAYOUT. K5L_DONE; or
+ * K5L_STATE for stored words of no such layout, or another number of words in `record`, and nothing is touched. Whether the record is
+ * sound is not judged here: every call does that, as ever. The two must not overlap. */
+uint64_t k5l_carry(const uint64_t *stored, size_t stored_words, uint64_t *record, size_t words) K5L_MUST_USE;
 
 /* Does the record stand for a sound state of the part? Events on others are K5L_STATE. */
 bool k5l_sound(uint64_t part, const uint64_t *record, size_t words);
@@ -144,16 +161,17 @@ uint64_t k5l_exposed_word(uint64_t part, const uint64_t *record, size_t words);
 /* How many words of debris a cut would need if it came now; K5L_NONE for a record that is not sound. */
 uint64_t k5l_debris_needed(uint64_t part, const uint64_t *record, size_t words);
 
-/* What comes if nobody writes. Microseconds until nothing runs any more: 0 where nothing does (what is suspended does not).
- * K5L_NONE for a record that is not sound. The clock's limit is not looked at: a wait past it is refused all the same. */
+/* What comes if nobody writes. Microseconds until nothing runs any more: 0 where nothing does (what is suspended does not; a recovery
+ * does, until it ends in suspension). K5L_NONE for a record that is not sound. The clock's limit is not looked at: a wait past it is
+ * refused all the same. */
 uint64_t k5l_until_end(uint64_t part, const uint64_t *record, size_t words);
 
-/* Microseconds until the device next changes by itself: the erase window ends, a block or a word is finished. Until then no cell
- * changes, and reads give what they give now but for their toggles. K5L_NONE where nothing runs, and for a record that is not
- * sound. */
+/* Microseconds until the device next changes by itself: the erase window ends, a recovery ends, a block or a word is finished. Until
+ * then no cell changes, and reads give what they give now but for their toggles. K5L_NONE where nothing runs, and for a record that is
+ * not sound. */
 uint64_t k5l_until_change(uint64_t part, const uint64_t *record, size_t words);
 
-/* The block, or the word, that is finished then; K5L_NONE where it is none: at the window's end, and where nothing comes. */
+/* The block, or the word, that is finished then; K5L_NONE where none is: at a window's or a recovery's end, and where nothing comes. */
 uint64_t k5l_changing_block(uint64_t part, const uint64_t *record, size_t words);
 uint64_t k5l_changing_word(uint64_t part, const uint64_t *record, size_t words);
 
@@ -250,46 +268,16 @@ static inline K5L_MUST_USE uint64_t k5l_device_fresh(struct k5l_device *d, uint6
     return refusal == K5L_DONE ? k5l_device_wait(d, 0) : refusal;
 }
 
-static inline bool k5l_device_sound(const struct k5l_device *d)
-{
-    return k5l_sound(d->part, d->record, K5L_RECORD_WORDS);
-}
-static inline uint64_t k5l_device_clock(const struct k5l_device *d)
-{
-    return k5l_clock(d->part, d->record, K5L_RECORD_WORDS);
-}
-static inline uint64_t k5l_device_charge(const struct k5l_device *d)
-{
-    return k5l_charge(d->part, d->record, K5L_RECORD_WORDS);
-}
-static inline uint64_t k5l_device_exposed_block(const struct k5l_device *d)
-{
-    return k5l_exposed_block(d->part, d->record, K5L_RECORD_WORDS);
-}
-static inline uint64_t k5l_device_exposed_word(const struct k5l_device *d)
-{
-    return k5l_exposed_word(d->part, d->record, K5L_RECORD_WORDS);
-}
-static inline uint64_t k5l_device_debris_needed(const struct k5l_device *d)
-{
-    return k5l_debris_needed(d->part, d->record, K5L_RECORD_WORDS);
-}
-static inline uint64_t k5l_device_until_end(const struct k5l_device *d)
-{
-    return k5l_until_end(d->part, d->record, K5L_RECORD_WORDS);
-}
-static inline uint64_t k5l_device_until_change(const struct k5l_device *d)
-{
-    return k5l_until_change(d->part, d->record, K5L_RECORD_WORDS);
-}
-static inline uint64_t k5l_device_changing_block(const struct k5l_device *d)
-{
-    return k5l_changing_block(d->part, d->record, K5L_RECORD_WORDS);
-}
-static inline uint64_t k5l_device_changing_word(const struct k5l_device *d)
-{
-    return k5l_changing_word(d->part, d->record, K5L_RECORD_WORDS);
-}
+static inline bool k5l_device_sound(const struct k5l_device *d) { return k5l_sound(d->part, d->record, K5L_RECORD_WORDS); }
+static inline uint64_t k5l_device_clock(const struct k5l_device *d) { return k5l_clock(d->part, d->record, K5L_RECORD_WORDS); }
+static inline uint64_t k5l_device_charge(const struct k5l_device *d) { return k5l_charge(d->part, d->record, K5L_RECORD_WORDS); }
+static inline uint64_t k5l_device_exposed_block(const struct k5l_device *d) { return k5l_exposed_block(d->part, d->record, K5L_RECORD_WORDS); }
+static inline uint64_t k5l_device_exposed_word(const struct k5l_device *d) { return k5l_exposed_word(d->part, d->record, K5L_RECORD_WORDS); }
+static inline uint64_t k5l_device_debris_needed(const struct k5l_device *d) { return k5l_debris_needed(d->part, d->record, K5L_RECORD_WORDS); }
+static inline uint64_t k5l_device_until_end(const struct k5l_device *d) { return k5l_until_end(d->part, d->record, K5L_RECORD_WORDS); }
+static inline uint64_t k5l_device_until_change(const struct k5l_device *d) { return k5l_until_change(d->part, d->record, K5L_RECORD_WORDS); }
+static inline uint64_t k5l_device_changing_block(const struct k5l_device *d) { return k5l_changing_block(d->part, d->record, K5L_RECORD_WORDS); }
+static inline uint64_t k5l_device_changing_word(const struct k5l_device *d) { return k5l_changing_word(d->part, d->record, K5L_RECORD_WORDS); }
 static inline bool k5l_device_reads_cells(const struct k5l_device *d, uint64_t bank)
 {
     return k5l_reads_cells(d->part, d->record, K5L_RECORD_WORDS, bank);

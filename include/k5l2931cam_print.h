@@ -1,5 +1,5 @@
 /*
- * A record printed in words, for debugging: every field of layout 1, as k5l2931cam.h has it, of sound records and of others.
+ * A record printed in words, for debugging: every field of layout 2, as k5l2931cam.h has it, of sound records and of others.
  *
  *     k5l_print_record(stderr, part, record, K5L_RECORD_WORDS);
  */
@@ -73,6 +73,8 @@ static inline void k5l_print_erase(FILE *out, const uint64_t *record)
     k5l_print_blocks(out, "listed", record + 6);
     fprintf(out, "  in hand    %" PRIu64 ", %" PRIu64 " us left%s\n", record[11], record[12],
             record[5] == 3 ? " of the window" : "");
+    if (record[5] == 4 && record[29] != 0)
+        fprintf(out, "  recovery   %" PRIu64 " us left%s\n", record[29], record[29] > 20 ? ", where 20 are the most" : "");
     fprintf(out, "  toggles    DQ6 %u, DQ2 %u\n", (unsigned)(record[13] & 1), (unsigned)(record[13] >> 1 & 1));
     if (record[13] > 3)
         fprintf(out, "  word 13    %" PRIX64 "H, where 3 is the most\n", record[13]);
@@ -111,6 +113,8 @@ static inline void k5l_print_record(FILE *out, uint64_t part, const uint64_t *re
             k5l_sound(part, record, words) ? "sound" : "not sound: every event is STATE");
     if (words != K5L_RECORD_WORDS) {
         fprintf(out, "  %zu words, where a record has %d\n", words, K5L_RECORD_WORDS);
+        if (words == 29 && record[0] == 1)
+            fprintf(out, "  layout     1: k5l_carry makes a record of it\n");
         return;
     }
     if (record[0] != K5L_LAYOUT)
@@ -121,6 +125,8 @@ static inline void k5l_print_record(FILE *out, uint64_t part, const uint64_t *re
     k5l_print_blocks(out, "DYB 1", record + 18);
     k5l_print_blocks(out, "PPB 1", record + 23);
     fprintf(out, "  PPB lock   %" PRIu64 "\n", record[28]);
+    if (record[5] != 4)
+        k5l_print_strays(out, record, 29, 30);
 }
 
 #endif

@@ -33,7 +33,7 @@ function wrote(a, w) {
         gone = 0
         said = "adds block " block_at(a)
     } else if (doing == "waits") { doing = "rests"; gone = 0; said = "suspends" }
-    else if (doing == "erases") { doing = "rests"; said = "suspends" }
+    else if (doing == "erases") { doing = "recovers"; over = 0; said = "suspends" }
 }
 
 function hears(a, w,    code) {
@@ -118,6 +118,7 @@ function time_left() {
     if (doing == "programs" || doing == "programsIn") return figure["programTime"] - program_gone
     if (doing == "waits") return figure["windowTime"] - gone
     if (doing == "erases") return figure["eraseTime"] - gone
+    if (doing == "recovers") return figure["recoveryTime"] - over
     return doing == "wipes" ? figure["chipTime"] - gone : 0
 }
 
@@ -140,6 +141,9 @@ function passes(n,    ended) {
     } else if (doing == "waits") {
         gone += n
         if (ended) { doing = "erases"; gone = 0 }
+    } else if (doing == "recovers") {
+        over += n
+        if (ended) doing = "rests"
     } else if (doing == "erases" || doing == "wipes") {
         gone += n
         if (ended) { hand = next_listed(hand); gone = 0; if (hand == block_count) doing = "nothing" }
@@ -149,7 +153,7 @@ function passes(n,    ended) {
 # ---- an accepted cut: what had begun is left in cut_block and cut_word, "" where there is none
 
 function follow_cut(    b) {
-    cut_block = (doing == "erases" || doing == "wipes" || doing == "rests" || doing == "programsIn") && gone > 0 ? hand : ""
+    cut_block = (doing == "erases" || doing == "recovers" || doing == "wipes" || doing == "rests" || doing == "programsIn") && gone > 0 ? hand : ""
     cut_word = (doing == "programs" || doing == "programsIn") && program_gone > 0 ? program_at : ""
     command = "Ground"; doing = "nothing"
     for (b = 0; b < block_count; b++) { guarded[b] = dyb[b] || ppb[b]; dyb[b] = 0 }

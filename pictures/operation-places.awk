@@ -1,7 +1,7 @@
 # Where the states and arrows of operation.awk stand: an arrow's path, and the place of its words.
 function places() {
     place("ChipErasing", 380, 150); place("Idle", 380, 360); place("Programming", 20, 360); place("ProgramSuspended", 20, 560)
-    place("Window", 740, 360); place("Erasing", 1080, 360)
+    place("Window", 740, 360); place("Erasing", 1080, 360); place("Recovering", 1095, 465)
     place("EraseSuspended Nothing", 910, 560); place("EraseSuspended Runs", 480, 560)
 }
 
@@ -16,8 +16,9 @@ function routes() {
     routed("Window>Erasing", "M930 390L1075 390", 1003, 383, "middle")
     routed("Erasing>Erasing", "M1190 360C1180 300 1260 300 1250 356", 1290, 304, "end")
     routed("Erasing>Idle", "M1120 360C1060 250 640 250 545 355", 850, 262, "middle")
-    routed("Erasing>EraseSuspended Nothing", "M1150 420L1080 555", 1108, 485, "end")
-    routed("EraseSuspended Nothing>Erasing", "M1100 570C1180 540 1190 480 1190 425", 1192, 500, "")
+    routed("Erasing>Recovering", "M1190 420L1190 460", 1198, 445, "")
+    routed("Recovering>EraseSuspended Nothing", "M1190 525C1190 560 1160 580 1105 590", 1185, 580, "")
+    routed("EraseSuspended Nothing>Erasing", "M1020 560C1020 500 1050 450 1095 425", 1052, 500, "")
     routed("Window>EraseSuspended Nothing", "M850 420L940 555", 890, 500, "end")
     routed("EraseSuspended Nothing>EraseSuspended Runs", "M910 575L675 575", 792, 568, "middle")
     routed("EraseSuspended Runs>EraseSuspended Nothing", "M670 605L905 605", 792, 622, "middle")

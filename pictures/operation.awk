@@ -49,6 +49,7 @@ function first_word(s) { gsub(/[()]/, " ", s); s = trimmed(s); sub(/ .*/, "", s)
 function full_time(state) {
     if (state == "Window") return grouped(figure["windowTime"])
     if (state == "ChipErasing") return grouped(figure["chipTime"])
+    if (state == "Recovering") return grouped(figure["recoveryTime"])
     return grouped(figure[state == "Erasing" ? "eraseTime" : "programTime"])
 }
 
@@ -110,7 +111,7 @@ function read_writes(    c) {
     wrote_arrow("Window", "EraseSuspended Nothing", "B0H", "inWindow p bits e a w", c)
     rests_on(commands, "effected r Drops = answer Sequence 0 (device (r .meter) Ground Idle (r .bits))")
     wrote_arrow("Window", "Idle", "any other write: SEQUENCE", "inWindow p bits e a w drops", c)
-    wrote_arrow("Erasing", "EraseSuspended Nothing", "B0H", "inErase e w", "written p bits (Erasing e) c l a w = inErase e w")
+    wrote_arrow("Erasing", "Recovering", "B0H", "inErase p e w", "written p bits (Erasing e) c l a w = inErase p e w")
     for (c in started) if (!(c in used)) die(commands ": `" c "` starts " started[c] ", which pictures/operation.awk does not draw")
 }
 
@@ -121,7 +122,7 @@ function read_states(    i, p) {
     read_clauses("crates/plain/specs/Operations.antt", "runningOf")
     read_clauses("crates/plain/specs/Operations.antt", "runningInside")
     rests_on(commands, "inSuspendedErase (Runs q) effect = Stays Busy")
-    rests_on(commands, "inErase e w = if is w 0xB0 then Starts (EraseSuspended (suspended e Nothing)) else Stays Busy")
+    rests_on(commands, "inErase p e w = if is w 0xB0 then Starts (Recovering (recovery e (recoveryTime p))) else Stays Busy")
     busy["EraseSuspended Runs"] = "every write is BUSY"; busy["Erasing"] = "any other write is BUSY"
     for (i = 1; i <= clauses["written"]; i++) {
         parts_of(left["written", i], "", p)

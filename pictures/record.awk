@@ -66,6 +66,7 @@ function band_words() {
     if (doing == "programs") return "program " program_at
     if (doing == "waits") return "window" short_list()
     if (doing == "erases") return "erase " hand
+    if (doing == "recovers") return "recovers " hand
     if (doing == "wipes") return "chip erase " (hand == first_hand ? hand : first_hand " to " hand)
     return "suspended " hand
 }

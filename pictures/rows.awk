@@ -3,7 +3,7 @@ function style() {
     return ".read { fill: #4a5568 } .refused { fill: #c53030 } .cut { fill: #c53030; font-weight: bold } .taken { fill: #1a202c }" \
         " .curve { stroke: #2f855a; stroke-width: 2; fill: none } .under { fill: #c6f6d5 } .tick { stroke: #a0aec0; stroke-dasharray: 2 2 }" \
         " .power { stroke: #c53030; stroke-width: 2.5 } .nothing { fill: #edf2f7 } .programs { fill: #90cdf4 } .waits { fill: #faf089 }" \
-        " .erases { fill: #fbb36b } .wipes { fill: #fc9d9d } .rests { fill: #d6bcfa } .frame { fill: none; stroke: #cbd5e0 }" \
+        " .erases { fill: #fbb36b } .recovers { fill: #f6ad9b } .wipes { fill: #fc9d9d } .rests { fill: #d6bcfa } .frame { fill: none; stroke: #cbd5e0 }" \
         " .safe { fill: #ffffff; stroke: #cbd5e0 } .guard { fill: #cbd5e0; stroke: #a0aec0 } .hit { fill: #c53030; stroke: #742a2a }" \
         " .part { fill: #ed8936; stroke: #7b341e }"
 }
@@ -94,6 +94,7 @@ function legends(y,    x) {
     x = legend(20, y, "programs", "program")
     x = legend(x, y, "waits", "erase window")
     x = legend(x, y, "erases", "block erase")
+    x = legend(x, y, "recovers", "erase recovers")
     x = legend(x, y, "rests", "erase suspended")
     x = legend(x, y, "wipes", "chip erase")
     x = legend(x, y, "nothing", "nothing runs")

@@ -87,10 +87,7 @@ static void model_side_write(uint64_t address, uint16_t word)
 {
     answer = model_write(MODEL_FULL, &record, cells, K5L_FULL_WORDS, address, word);
 }
-static void model_side_wait(uint64_t microseconds)
-{
-    answer = model_wait(MODEL_FULL, &record, cells, K5L_FULL_WORDS, microseconds);
-}
+static void model_side_wait(uint64_t microseconds) { answer = model_wait(MODEL_FULL, &record, cells, K5L_FULL_WORDS, microseconds); }
 static void model_side_cut(size_t debris_length)
 {
     answer = model_cut(MODEL_FULL, &record, cells, K5L_FULL_WORDS, debris, debris_length);
@@ -153,6 +150,7 @@ static void prepare_erase_of(const struct side *side, unsigned blocks)
 
 static void prepare_erase(const struct side *side) { prepare_erase_of(side, BANK_BLOCKS); }
 static void prepare_short_erase(const struct side *side) { prepare_erase_of(side, 1); }
+static void prepare_recovery(const struct side *side) { prepare_erase(side); side->write(OTHER_BANK_AT, 0xB0); } /* 20 us of it */
 
 static void prepare_last_microsecond(const struct side *side)
 {
@@ -168,6 +166,7 @@ static void write_reset(const struct side *side) { side->write(OTHER_BANK_AT, 0x
 static void write_suspend(const struct side *side) { side->write(OTHER_BANK_AT, 0xB0); }
 static void write_out_of_turn(const struct side *side) { side->write(OTHER_BANK_AT, 0x1234); }
 static void wait_1(const struct side *side) { side->wait(1); }
+static void wait_1000(const struct side *side) { side->wait(1000); }
 static void wait_long(const struct side *side) { side->wait(10000000000000); }
 static void fill_block(const struct side *side) { (void)side; memset(cells + BLOCK_AT, 0xFF, BLOCK_WORDS * sizeof *cells); }
 static void cut_word(const struct side *side) { side->cut(1); }
@@ -212,6 +211,7 @@ static const struct kind {
     { "wait-1us-idle-restored", 300000, K5L_DONE, true, prepare_idle, wait_1 },
     { "wait-1e13us-idle-restored", 300000, K5L_DONE, true, prepare_idle, wait_long },
     { "wait-1us-96-blocks", 300000, K5L_DONE, false, prepare_erase, wait_1 },
+    { "wait-over-recovery-restored", 300000, K5L_DONE, true, prepare_recovery, wait_1000 },
     { "erase-finish-64KiB-restored", 2000, K5L_DONE, true, prepare_last_microsecond, wait_1 },
     { "memset-64KiB", 2000, K5L_DONE, false, prepare_idle, fill_block },
     { "cut-begun-program-restored", 300000, K5L_DONE, true, prepare_program, cut_word },

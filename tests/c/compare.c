@@ -22,7 +22,7 @@ static struct { uint64_t address; uint16_t word; } plan[LONGEST_PLAN];
 static size_t planned, done;
 static bool calm;
 
-static unsigned long refusals[REFUSALS], operations[MODEL_CHIP_ERASE + 1];
+static unsigned long refusals[REFUSALS], operations[MODEL_OPERATIONS];
 static uint16_t debris[32768 + 2];
 
 static uint16_t blank_or_random(uint64_t address)
@@ -130,8 +130,7 @@ static uint16_t some_data(const struct pair *pair, uint64_t address)
 /* The next command, or commands. */
 static void make_plan(const struct pair *pair)
 {
-    uint64_t kind = below(64);
-    uint64_t address = some_address(pair);
+    uint64_t kind = below(64), address = some_address(pair);
 
     planned = done = 0;
     calm = false;
@@ -155,12 +154,12 @@ static void make_plan(const struct pair *pair)
         add(address, (uint16_t[]){ 0x30, 0xB0, 0xF0 }[below(3)]);
 }
 
-/* Sizes around all the times there are, and around what is left of the operation; at times up to the clock's limit. */
+/* Sizes around all the times there are, and around what is left up to the next change; at times up to the clock's limit. */
 static uint64_t some_wait(const struct pair *pair)
 {
-    static const uint64_t sizes[] = { 0, 1, 5, 6, 49, 50, 51, 499999, 500000, 500001, 699999, 700000, 700001, 700050 };
+    static const uint64_t sizes[] = { 0, 1, 5, 6, 19, 20, 21, 49, 50, 51, 499999, 500000, 500001, 699999, 700000, 700001, 700050 };
     struct model_record record = now(pair);
-    uint64_t left = model_program_runs(&record) ? record.program.left : model_has_erase(&record) ? record.erase.left : 1;
+    uint64_t change = model_until_change(pair->part, &record), left = change != MODEL_NONE ? change : 1;
     uint64_t room = 100000000000000 - record.clock;
 
     if (once_in(500))
@@ -230,7 +229,7 @@ static struct event some_event(const struct pair *pair)
 {
     struct event event = { .kind = EVENT_READ, .debris = debris };
     struct model_record record = now(pair);
-    bool runs = model_program_runs(&record) || model_erase_runs(&record);
+    bool runs = model_is_busy(&record);
     uint64_t writes = runs ? 30 : 60, reads = 20;
     uint64_t kind = calm && done < planned ? 0 : once_in(record.operation != MODEL_IDLE ? 40 : 200) ? 100 : below(100);
 
@@ -285,8 +284,8 @@ int main(int count, char **arguments)
         debris[i] = (uint16_t)dice();
     run(K5L_SMALL, small);
     run(K5L_FULL, full);
-    printf("compare: events in operation 0 to 7:");
-    for (int i = 0; i <= MODEL_CHIP_ERASE; i++) {
+    printf("compare: events in operation 0 to 7, and in a recovery:");
+    for (int i = 0; i < MODEL_OPERATIONS; i++) {
         printf(" %lu", operations[i]);
         HOLDS(operations[i] > 0);
     }

@@ -85,6 +85,13 @@ uint64_t set_ppb(uint64_t address)
     return bus_write(address, 0x48);
 }
 
+void suspend(void)
+{
+    SAME(bus_write(0, 0xB0), K5L_DONE);
+    SAME(pass(20), K5L_DONE);
+    SAME(record[OPERATION], SUSPENDED_ERASE);
+}
+
 uint64_t clock_now(void) { return k5l_clock(part, record, K5L_RECORD_WORDS); }
 uint64_t charge_now(void) { return k5l_charge(part, record, K5L_RECORD_WORDS); }
 uint64_t exposed_block(void) { return k5l_exposed_block(part, record, K5L_RECORD_WORDS); }

@@ -7,9 +7,10 @@
 
 /* Words of the record, and some of their values, by the header's table. */
 enum { CLOCK = 1, CHARGE = 2, COMMAND = 3, OPERATION = 5, LIST = 6, HAND = 11, LEFT = 12, ADDRESS = 14, DATA = 15,
-       PROGRAM_LEFT = 16, PROGRAM_DQ6 = 17, DYBS = 18, PPBS = 23, LOCK = 28 };
+       PROGRAM_LEFT = 16, PROGRAM_DQ6 = 17, DYBS = 18, PPBS = 23, LOCK = 28, RECOVERY = 29 };
 enum { GROUND = 0, AFTER_A0 = 3, IDENTITY = 11 };
-enum { NO_OPERATION = 0, PROGRAM = 1, SUSPENDED_PROGRAM = 2, SUSPENDED_ERASE = 5, CHIP_ERASE = 7 };
+enum { NO_OPERATION = 0, PROGRAM = 1, SUSPENDED_PROGRAM = 2, WINDOW = 3, BLOCK_ERASE = 4, SUSPENDED_ERASE = 5, PROGRAM_INSIDE = 6,
+       CHIP_ERASE = 7 };
 
 static const uint64_t CLOCK_LIMIT = 100000000000000;
 
@@ -35,6 +36,9 @@ uint64_t program(uint64_t address, uint16_t word);
 uint64_t erase(uint64_t address, uint16_t last);
 uint64_t set_dyb(uint64_t address, uint16_t value);
 uint64_t set_ppb(uint64_t address);
+
+/* B0H in a running block erase, and the 20 us until it is suspended. */
+void suspend(void);
 
 uint64_t clock_now(void);
 uint64_t charge_now(void);

@@ -1,7 +1,7 @@
 /*
  * The functions of the header, with what document 01 says of each written out by hand: each refusal with what it leaves behind,
  * the readings, windows, suspensions and cuts, and every block's first and last word on both parts. (What they foretell is in
- * foreseen.c.)
+ * foreseen.c, the 20 us before a suspension in recovery.c.)
  */
 #include "driver.h"
 
@@ -57,6 +57,7 @@ static void suspensions(void)
     SAME(pass(60), K5L_DONE);
     CHANGES_NOTHING(bus_write(64, 0x30), K5L_BUSY);
     SAME(bus_write(16383, 0xB0), K5L_DONE);
+    SAME(pass(20), K5L_DONE);
     SAME(bus_read(64), 0xC4);
     SAME(bus_read(64), 0xC0);
     HOLDS(!reads_cells(0) && reads_cells(1));
@@ -70,7 +71,7 @@ static void suspensions(void)
     SAME(bus_read(64), 0x44);
     SAME(pass(1000), K5L_DONE);
     SAME(cells[128], 0x0080);
-    SAME(charge_now(), 50 * 15 + 16 * 17000 + 994 * 15);
+    SAME(charge_now(), 50 * 15 + (10 + 20 + 6) * 17000 + 994 * 15);
     SAME(bus_write(2048, 0x30), K5L_DONE);
     SAME(bus_write(0, 0xF0), K5L_BUSY);
     SAME(pass(699990), K5L_DONE);
@@ -184,7 +185,7 @@ static void cuts(void)
     SAME(enter(0x78), K5L_DONE);
     SAME(erase(first, 0x30), K5L_DONE);
     SAME(pass(51), K5L_DONE);
-    SAME(bus_write(0, 0xB0), K5L_DONE);
+    suspend();
     cells[first - 1] = 0x0FF0;
     SAME(program(first - 1, 0x00F0), K5L_DONE);
     SAME(exposed_word(), K5L_NONE);
@@ -198,8 +199,8 @@ static void cuts(void)
     SAME(cells[first + words], 0xFFFF);
     SAME(record[COMMAND] | record[OPERATION] | record[DYBS] | record[LOCK], 0);
     SAME(record[PPBS], 1);
-    SAME(clock_now(), 52);
-    SAME(charge_now(), 50 * 15 + 2 * 17000);
+    SAME(clock_now(), 72);
+    SAME(charge_now(), 50 * 15 + (1 + 20 + 1) * 17000);
 }
 
 /* Programs and waits; two answers in one. */

@@ -137,7 +137,8 @@ static void programs(void)
     SAME(erase(64, 0x30), K5L_DONE);
     SAME(pass(60), K5L_DONE);
     SAME(bus_write(0, 0xB0), K5L_DONE);
-    expect_nothing();
+    expect(20, 20, K5L_NONE, K5L_NONE);
+    follow();
     SAME(program(2048, cells[2048] & 0x0F0E), K5L_DONE);
     expect(6, 6, K5L_NONE, 2048);
     follow();
@@ -161,8 +162,10 @@ static void block_erases(void)
     SAME(pass(50 + 700000 + 100000), K5L_DONE);
     expect(600000, 600000, 9, K5L_NONE);
     SAME(bus_write(0, 0xB0), K5L_DONE);
-    expect_nothing();
+    SAME(pass(13), K5L_DONE);
+    expect(7, 7, K5L_NONE, K5L_NONE);
     SAME(pass(1000000), K5L_DONE);
+    expect_nothing();
     SAME(bus_write(0, 0x30), K5L_DONE);
     expect(600000, 600000, 9, K5L_NONE);
     follow();
@@ -259,21 +262,21 @@ static void needs(uint64_t words)
     SAME(debris_needed(), 0);
 }
 
-/* A block in hand, then a program inside its suspension: the most that can be needed is a large block and a word. */
+/* A block in hand, its recovery, then a program inside its suspension: the most that can be needed is a large block and a word. */
 static void debris_of(uint64_t block, uint64_t most)
 {
-    for (int what = 0; what < 6; what++) {
+    for (int what = 0; what < 7; what++) {
         fresh();
         SAME(debris_needed(), 0);
         SAME(erase(k5l_first_word(part, block), 0x30), K5L_DONE);
         SAME(pass(what == 0 ? 49 : what == 1 ? 50 : 51), K5L_DONE);
         if (what > 2)
             SAME(bus_write(0, 0xB0), K5L_DONE);
-        if (what > 3)
-            SAME(program(k5l_first_word(part, 100), 0), K5L_DONE);
+        SAME(pass(what > 3 ? 20 : 0), K5L_DONE);
         if (what > 4)
-            SAME(pass(1), K5L_DONE);
-        needs(what < 2 ? 0 : what < 5 ? most - 1 : most);
+            SAME(program(k5l_first_word(part, 100), 0), K5L_DONE);
+        SAME(pass(what > 5 ? 1 : 0), K5L_DONE);
+        needs(what < 2 ? 0 : what < 6 ? most - 1 : most);
     }
 }
 

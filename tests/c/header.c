@@ -8,7 +8,7 @@
 #include <stdio.h>
 #include <string.h>
 
-#if K5L_NONE != 18446744073709551615u || K5L_VERSION_MAJOR < 1
+#if K5L_NONE != 18446744073709551615u || K5L_VERSION_MAJOR < 2
 #error "K5L_NONE and the version are no numbers here"
 #endif
 
@@ -104,7 +104,8 @@ static void command_both(uint16_t third)
     write_both(0x555, third);
 }
 
-/* A program that cannot work; an erase, suspended, with a program inside, and a cut: every question has an answer that is not none, and one that is. */
+/* A program that cannot work; an erase, its recovery, a program inside its suspension, and a cut: every question has an answer that is
+ * not none, and one that is. */
 static void in_one_piece(void)
 {
     SAME(k5l_device_fresh(&whole, K5L_SMALL, whole_cells, K5L_SMALL_WORDS), K5L_DONE);
@@ -121,6 +122,10 @@ static void in_one_piece(void)
     wait_both(1000);
     read_both(64);
     write_both(64, 0xB0);
+    read_both(64);
+    wait_both(13);
+    write_both(64, 0x30);
+    wait_both(7);
     command_both(0xA0);
     write_both(2048, 0x1234);
     wait_both(3);

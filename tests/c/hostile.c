@@ -18,7 +18,7 @@ static uint16_t some_word(uint64_t address) { return (uint16_t)(address * 40503 
 static struct event some_event(enum event_kind kind)
 {
     static const uint64_t addresses[] = { 0, 2, 8, 64, 100, 0x2AA, 0x555, 640, 2047, 2048, 3001, 16383, 16384, UINT64_MAX };
-    static const uint64_t waits[] = { 0, 1, 5, 6, 7, 49, 50, 51, 499999, 500000, 699999, 700000, 700050, 1400000,
+    static const uint64_t waits[] = { 0, 1, 5, 6, 7, 19, 20, 21, 49, 50, 51, 499999, 500000, 699999, 700000, 700050, 1400000,
                                       4294967296, 100000000000000, 100000000000001, UINT64_MAX };
     static const uint16_t words[] = { 0xAA, 0x55, 0xA0, 0x80, 0x10, 0x30, 0x90, 0x58, 0x48, 0x78, 0x60, 0x68, 0x40, 0xB0, 0xF0,
                                       0, 1, 2, 0x1234, 0xFFFF };
@@ -62,6 +62,7 @@ static struct model_record some_record(uint64_t part, enum model_operation opera
     record.bank = below(MODEL_BANKS);
     record.erase.hand = lowest;
     record.erase.left = ONE_OF(times);
+    record.erase.recovery = 1 + below(20);
     record.erase.dq6 = once_in(2);
     record.erase.dq2 = once_in(2);
     model_put(&record.erase.list, lowest, true);
@@ -97,8 +98,8 @@ static bool sound_image(struct pair *pair, enum model_operation operation, enum 
 /* Each word of the image in turn with many values. */
 static void altered_words(struct pair *pair, unsigned every)
 {
-    static const uint64_t values[] = { 0, 1, 2, 3, 4, 6, 7, 8, 11, 12, 13, 49, 50, 51, 269, 270, 16383, 16384, 0xFFFF, 0x10000,
-                                       499999, 500000, 500001, 699999, 700000, 700001, 8388607, 8388608, 100000000000000,
+    static const uint64_t values[] = { 0, 1, 2, 3, 4, 6, 7, 8, 11, 12, 13, 19, 20, 21, 49, 50, 51, 269, 270, 16383, 16384, 0xFFFF,
+                                       0x10000, 499999, 500000, 500001, 699999, 700000, 700001, 8388607, 8388608, 100000000000000,
                                        100000000000001, (uint64_t)1 << 63, UINT64_MAX };
     enum { VALUES = sizeof values / sizeof *values };
 
@@ -120,14 +121,14 @@ static void altered_images(struct pair *pair, unsigned every)
 {
     unsigned met = 0;
 
-    for (int operation = MODEL_IDLE; operation <= MODEL_CHIP_ERASE; operation++)
+    for (int operation = MODEL_IDLE; operation < MODEL_OPERATIONS; operation++)
         for (int command = MODEL_GROUND; command <= MODEL_PROTECTION; command++)
             if (sound_image(pair, (enum model_operation)operation, (enum model_command)command)) {
                 met++;
                 put_all(pair);
                 altered_words(pair, every);
             }
-    SAME(met, 13 + 5 + 6 + 5); /* idle, suspended program, suspended erase, and the five that run */
+    SAME(met, 13 + 5 + 6 + 6); /* idle, suspended program, suspended erase, and the six that run, a recovery being one */
 }
 
 /* Would the operation, going on, change words of the block? */
@@ -169,7 +170,7 @@ static uint64_t some_number(void)
 static void random_images(struct pair *pair, int count)
 {
     for (int i = 0; i < count; i++) {
-        uint64_t operation = below(MODEL_CHIP_ERASE + 1), command = once_in(2) ? MODEL_GROUND : below(MODEL_PROTECTION + 1);
+        uint64_t operation = below(MODEL_OPERATIONS), command = once_in(2) ? MODEL_GROUND : below(MODEL_PROTECTION + 1);
 
         for (int word = 0; word < K5L_RECORD_WORDS; word++)
             pair->image[word] = dice();
@@ -193,11 +194,11 @@ static void random_images(struct pair *pair, int count)
 /* Lengths that are not the record's, not the part's; and numbers that are no part's. */
 static void wrong_lengths(struct pair *pair, uint64_t part)
 {
-    static const size_t words[] = { 0, 1, 28, 30 };
+    static const size_t words[] = { 0, 1, 28, 29, 31 };
     static const uint64_t parts[] = { 2, 3, 4294967296, 4294967297, (uint64_t)1 << 63, UINT64_MAX };
     size_t right = model_words(part), other = model_words(part == K5L_SMALL), lengths[] = { 0, 1, right - 1, right + 1, other };
 
-    for (int operation = MODEL_IDLE; operation <= MODEL_CHIP_ERASE; operation++) {
+    for (int operation = MODEL_IDLE; operation < MODEL_OPERATIONS; operation++) {
         pair->part = part;
         pair->length = right;
         HOLDS(sound_image(pair, (enum model_operation)operation, MODEL_GROUND));
@@ -222,7 +223,7 @@ static void wrong_lengths(struct pair *pair, uint64_t part)
 /* k5l_fresh takes one length only. */
 static void wrong_fresh(void)
 {
-    static const size_t words[] = { 0, 1, 28, 30 };
+    static const size_t words[] = { 0, 1, 28, 29, 31 };
     uint64_t image[PAIR_IMAGE_WORDS], before[PAIR_IMAGE_WORDS];
 
     memset(image, 0xA5, sizeof image);
@@ -265,7 +266,7 @@ int main(void)
     pair_fill(&full, some_word);
     wrong_fresh();
     nothing_lent(&small);
-    for (int operation = MODEL_PROGRAM; operation <= MODEL_CHIP_ERASE; operation++) {
+    for (int operation = MODEL_PROGRAM; operation < MODEL_OPERATIONS; operation++) {
         protected_operation(&small, (enum model_operation)operation);
         protected_operation(&full, (enum model_operation)operation);
     }

@@ -14,15 +14,18 @@ static uint64_t start[BANKS + 1];
 
 static uint16_t cells_then[K5L_SMALL_WORDS], debris[K5L_SMALL_DEBRIS];
 
-/* How often a wait or a cut ended an operation beside a bank that gave its cells, by the operation. */
-static unsigned long ended[CHIP_ERASE + 1], cut_short[CHIP_ERASE + 1];
+/* How often a wait or a cut ended an operation beside a bank that gave its cells, by the operation; a recovery counts by itself. */
+enum { RECOVERING = CHIP_ERASE + 1 };
+static unsigned long ended[RECOVERING + 1], cut_short[RECOVERING + 1];
+
+static uint64_t operation_now(void) { return record[RECOVERY] != 0 ? RECOVERING : record[OPERATION]; }
 
 static uint64_t some_address(void) { return once_in(3) ? 64 + below(256) : below(length); }
 
 /* Around the times there are; at times long enough for anything to end. */
 static uint64_t some_wait(void)
 {
-    static const uint64_t sizes[] = { 0, 1, 5, 6, 49, 50, 51, 500000, 699999, 700000, 700050, 2000000, 140000000 };
+    static const uint64_t sizes[] = { 0, 1, 5, 6, 19, 20, 21, 49, 50, 51, 500000, 699999, 700000, 700050, 2000000, 140000000 };
 
     return once_in(3) ? below(100) : ONE_OF(sizes);
 }
@@ -30,7 +33,7 @@ static uint64_t some_wait(void)
 /* No write: a read, a wait or, more rarely, a cut. */
 static void pass_by(bool beside)
 {
-    uint64_t operation = record[OPERATION], chance = below(10);
+    uint64_t operation = operation_now(), chance = below(10);
 
     if (chance < 4)
         SAME(k5l_refusal_of(bus_read(some_address())), K5L_DONE);
@@ -38,7 +41,7 @@ static void pass_by(bool beside)
         SAME(pass(some_wait()), K5L_DONE);
     else
         SAME(cut(debris, K5L_SMALL_DEBRIS), K5L_DONE);
-    if (beside && record[OPERATION] != operation)
+    if (beside && operation_now() != operation)
         (chance < 9 ? ended : cut_short)[operation]++;
 }
 
@@ -122,7 +125,9 @@ int main(void)
         else
             some_command();
     }
-    for (int operation = PROGRAM; operation < CHIP_ERASE; operation++) {
+    for (int operation = PROGRAM; operation <= RECOVERING; operation++) {
+        if (operation == CHIP_ERASE)
+            continue; /* beside it no bank gives its cells */
         HOLDS(operation == SUSPENDED_PROGRAM || operation == SUSPENDED_ERASE || ended[operation] > 50);
         HOLDS(cut_short[operation] > 50);
     }

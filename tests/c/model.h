@@ -30,6 +30,7 @@ static const uint64_t MODEL_NONE = UINT64_MAX;
 static const uint64_t MODEL_CLOCK_LIMIT = 100000000000000;
 static const uint64_t MODEL_PROGRAM_TIME = 6, MODEL_WINDOW_TIME = 50;
 static const uint64_t MODEL_BLOCK_TIME = 700000, MODEL_CHIP_BLOCK_TIME = 500000;
+static const uint64_t MODEL_RECOVERY_TIME = 20; /* document 02, request 1 */
 static const uint64_t MODEL_RUNNING_CURRENT = 17000, MODEL_RESTING_CURRENT = 15;
 
 /* Block n is bit n % 64 of word n / 64. */
@@ -52,13 +53,16 @@ enum model_operation {
     MODEL_IDLE,
     MODEL_PROGRAM, MODEL_SUSPENDED_PROGRAM,
     MODEL_WINDOW, MODEL_BLOCK_ERASE, MODEL_SUSPENDED_ERASE, MODEL_PROGRAM_INSIDE,
-    MODEL_CHIP_ERASE
+    MODEL_CHIP_ERASE,
+    MODEL_RECOVERY,                                       /* a block erase after B0H: no progress, and not suspended yet */
+    MODEL_OPERATIONS
 };
 
-/* `left` is of the block in hand, but of the window while there is one: the block then has its full time left. */
+/* `left` is of the block in hand, but of the window while there is one: the block then has its full time left. `recovery` is what
+ * is left of a recovery, and means something in MODEL_RECOVERY alone. */
 struct model_erase {
     struct model_set list;
-    uint64_t hand, left;
+    uint64_t hand, left, recovery;
     bool dq6, dq2;
 };
 
@@ -120,6 +124,18 @@ uint64_t model_bank_of(uint64_t part, uint64_t address);
 /* Document 01, The die and its small twin: the small part divides every size and first word by 512. */
 static inline unsigned model_scale(uint64_t part) { return part == MODEL_FULL ? 0 : 9; }
 static inline uint64_t model_words(uint64_t part) { return (uint64_t)8388608 >> model_scale(part); }
+
+/* The two checks that every event begins with. */
+static inline uint64_t model_judge(uint64_t part, const struct model_record *record, size_t length)
+{
+#ifdef MODEL_TRUSTS
+    (void)record;
+#else
+    if (!model_sound(part, record))
+        return MODEL_STATE;
+#endif
+    return length == model_words(part) ? MODEL_DONE : MODEL_CELLS;
+}
 
 static inline uint64_t model_block(uint64_t part, uint64_t address)
 {
@@ -203,9 +219,16 @@ static inline bool model_program_runs(const struct model_record *record)
     return record->operation == MODEL_PROGRAM || record->operation == MODEL_PROGRAM_INSIDE;
 }
 
+/* Does an erase make progress? In its window and in a recovery it does not. */
 static inline bool model_erase_runs(const struct model_record *record)
 {
     return record->operation == MODEL_BLOCK_ERASE || record->operation == MODEL_CHIP_ERASE;
+}
+
+/* Is there something at work that takes no command, but B0H at most? */
+static inline bool model_is_busy(const struct model_record *record)
+{
+    return model_program_runs(record) || model_erase_runs(record) || record->operation == MODEL_RECOVERY;
 }
 
 static inline bool model_erase_is_suspended(const struct model_record *record)

@@ -10,6 +10,9 @@ static uint64_t step(struct model_record *record)
     if (record->operation == MODEL_WINDOW) {
         record->operation = MODEL_BLOCK_ERASE;
         erase->left = MODEL_BLOCK_TIME;
+    } else if (record->operation == MODEL_RECOVERY) {
+        record->operation = MODEL_SUSPENDED_ERASE;
+        taken = erase->recovery;
     } else if (model_erase_runs(record)) {
         erase->left = model_erase_time(record);
         erase->hand = model_next(&erase->list, erase->hand + 1);

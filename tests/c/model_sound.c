@@ -18,17 +18,20 @@ static bool command_is_sound(const struct model_record *record)
         || (command == MODEL_PROGRAM_DATA && record->operation == MODEL_SUSPENDED_ERASE);
 }
 
-/* A list that holds the block in hand is not empty; if it lies in one bank, then in that of the block in hand. */
+/* A list that holds the block in hand is not empty; if it lies in one bank, then in that of the block in hand. A recovery has 1 to 20
+ * microseconds left (document 02, request 1). */
 static bool erase_is_sound(const struct model_record *record)
 {
     const struct model_erase *erase = &record->erase;
     bool window = record->operation == MODEL_WINDOW, chip = record->operation == MODEL_CHIP_ERASE;
+    bool recovers = record->operation == MODEL_RECOVERY;
 
     return erase->hand < MODEL_BLOCKS && model_has(&erase->list, erase->hand)
         && model_within(&erase->list, chip ? &MODEL_EVERY_BLOCK : &MODEL_BANK_BLOCKS[model_bank(erase->hand)])
         && !model_meet(&erase->list, &record->dyb) && !model_meet(&erase->list, &record->ppb)
         && erase->left >= 1 && erase->left <= (window ? MODEL_WINDOW_TIME : model_erase_time(record))
-        && (!window || model_next(&erase->list, 0) == erase->hand);
+        && (!window || model_next(&erase->list, 0) == erase->hand)
+        && (!recovers || (erase->recovery >= 1 && erase->recovery <= MODEL_RECOVERY_TIME));
 }
 
 static bool program_is_sound(uint64_t part, const struct model_record *record)

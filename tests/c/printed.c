@@ -18,10 +18,10 @@ static FILE *nameless_file(void)
     return file;
 }
 
-/* What is printed, to the byte. */
-static void prints(uint64_t part, size_t words, const char *expected)
+static char got[2048];
+
+static void print(uint64_t part, size_t words)
 {
-    char got[2048];
     size_t length;
     FILE *out = nameless_file();
 
@@ -30,8 +30,22 @@ static void prints(uint64_t part, size_t words, const char *expected)
     length = fread(got, 1, sizeof got - 1, out);
     got[length] = '\0';
     fclose(out);
+}
+
+/* What is printed, to the byte. */
+static void prints(uint64_t part, size_t words, const char *expected)
+{
+    print(part, words);
     if (!SAME(strcmp(got, expected), 0))
         check_note("printed:\n%sexpected:\n%s", got, expected);
+}
+
+/* A line of what is printed, of the small part. */
+static void prints_line(const char *expected)
+{
+    print(K5L_SMALL, K5L_RECORD_WORDS);
+    if (!HOLDS(strstr(got, expected) != NULL))
+        check_note("printed:\n%sexpected in it:\n%s", got, expected);
 }
 
 static void idle(void)
@@ -48,7 +62,13 @@ static void idle(void)
            "  PPB lock   0\n");
     prints(2, K5L_RECORD_WORDS - 1,
            "record of part 2 (which is none), not sound: every event is STATE\n"
-           "  28 words, where a record has 29\n");
+           "  29 words, where a record has 30\n");
+    record[0] = 1;
+    prints(K5L_SMALL, 29,
+           "record of part 0 (small), not sound: every event is STATE\n"
+           "  29 words, where a record has 30\n"
+           "  layout     1: k5l_carry makes a record of it\n");
+    record[0] = 2;
     record[3] = 11;
     record[4] = 2;
     record[28] = 1;
@@ -119,11 +139,42 @@ static void window(void)
            "  PPB lock   0\n");
 }
 
+/* In recovery, sound and too long; then the same word where it is not in use. */
+static void recovery(void)
+{
+    SAME(k5l_fresh(record, K5L_RECORD_WORDS), K5L_DONE);
+    record[1] = 1057;
+    record[2] = 17119750;
+    record[5] = 4;
+    record[6] = 256;
+    record[11] = 8;
+    record[12] = 699000;
+    record[13] = 1;
+    record[29] = 13;
+    prints(K5L_SMALL, K5L_RECORD_WORDS,
+           "record of part 0 (small), sound\n"
+           "  clock      1057 us\n"
+           "  charge     17119750 pC\n"
+           "  command    ground\n"
+           "  operation  block erase\n"
+           "  listed     8\n"
+           "  in hand    8, 699000 us left\n"
+           "  recovery   13 us left\n"
+           "  toggles    DQ6 1, DQ2 0\n"
+           "  DYB 1      none\n"
+           "  PPB 1      none\n"
+           "  PPB lock   0\n");
+    record[29] = 21;
+    prints_line("  recovery   21 us left, where 20 are the most\n");
+    record[5] = 5;
+    prints_line("  word 29    15H, and it is not in use\n");
+}
+
 /* Whatever stands in the words is shown. */
 static void not_sound(void)
 {
     SAME(k5l_fresh(record, K5L_RECORD_WORDS), K5L_DONE);
-    record[0] = 2;
+    record[0] = 3;
     record[3] = 13;
     record[4] = 1;
     record[5] = 4;
@@ -133,7 +184,7 @@ static void not_sound(void)
     record[28] = 2;
     prints(K5L_SMALL, K5L_RECORD_WORDS,
            "record of part 0 (small), not sound: every event is STATE\n"
-           "  layout     2, where 1 is known\n"
+           "  layout     3, where 2 is known\n"
            "  clock      0 us\n"
            "  charge     0 pC\n"
            "  command    13, which is none\n"
@@ -175,7 +226,7 @@ static const struct written cases[] = {
     { " program", 0, 4, { UNLOCKS, { 0x555, 0xA0 }, { 64, 0 } } },
     { "block erase in its window", 49, 6, { UNLOCKS, { 0x555, 0x80 }, UNLOCKS, { 64, 0x30 } } },
     { " block erase", 50, 6, { UNLOCKS, { 0x555, 0x80 }, UNLOCKS, { 64, 0x30 } } },
-    { " suspended erase", 50, 7, { UNLOCKS, { 0x555, 0x80 }, UNLOCKS, { 64, 0x30 }, { 64, 0xB0 } } },
+    { " suspended erase", 50, 7, { UNLOCKS, { 0x555, 0x80 }, UNLOCKS, { 64, 0x30 }, { 64, 0xB0 } } }, /* in its window */
     { " chip erase", 50, 6, { UNLOCKS, { 0x555, 0x80 }, UNLOCKS, { 0x555, 0x10 } } },
 };
 
@@ -208,6 +259,7 @@ int main(void)
     idle();
     erase_with_a_program();
     window();
+    recovery();
     not_sound();
     for (unsigned i = 0; i < sizeof cases / sizeof *cases; i++)
         named(&cases[i]);

@@ -62,7 +62,7 @@ static void order(void)
     refused(kept, 0x1234, K5L_PROTECTED);
     SAME(erase(listed, 0x30), K5L_DONE);
     SAME(pass(1050), K5L_DONE);
-    SAME(bus_write(0, 0xB0), K5L_DONE);
+    suspend();
     refused(kept, 0x1234, K5L_PROTECTED);
     refused(listed, 0x1234, K5L_SUSPENDED);
     refused(free_word, 0x1234, K5L_RAISE);

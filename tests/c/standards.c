@@ -1,11 +1,12 @@
 /* Uses of the headers that each C from 1999 on and each C++ from 2011 on must take without a warning: see tests/c/standards. */
 #include "k5l2931cam_print.h"
 
-#if K5L_NONE == 0 || K5L_VERSION_MAJOR < 1
+#if K5L_NONE == 0 || K5L_VERSION_MAJOR < 2
 #error "K5L_NONE and the version are no numbers here"
 #endif
 
 static uint16_t cells[K5L_SMALL_WORDS];
+static uint64_t stored[29] = { 1 };
 
 static int is_block(uint64_t block)
 {
@@ -21,9 +22,12 @@ int main(void)
 
     if (k5l_device_fresh(&device, K5L_SMALL, cells, K5L_SMALL_WORDS) != K5L_DONE)
         return 1;
+    if (k5l_carry(stored, 29, device.record, K5L_RECORD_WORDS) != K5L_DONE)
+        return 1;
     k5l_device_read(&device, 0); /* a bus cycle whose word nobody wants */
-#ifdef DROPS /* eight refusals that nobody looks at */
+#ifdef DROPS /* nine refusals that nobody looks at */
     k5l_fresh(device.record, K5L_RECORD_WORDS);
+    k5l_carry(stored, 29, device.record, K5L_RECORD_WORDS);
     k5l_write(K5L_SMALL, device.record, K5L_RECORD_WORDS, cells, K5L_SMALL_WORDS, 0, 0xF0);
     k5l_wait(K5L_SMALL, device.record, K5L_RECORD_WORDS, cells, K5L_SMALL_WORDS, 1);
     k5l_cut(K5L_SMALL, device.record, K5L_RECORD_WORDS, cells, K5L_SMALL_WORDS, NULL, 0);

@@ -8,7 +8,7 @@ enum { BLOCK = 8, STORED_CLOCK = 10, STORED_CHARGE = 2 * 17000 + 8 * 15 };
 
 static uint64_t first, last, at; /* the block's first and last word, and the program's between them */
 
-/* 1234H in block 8, suspended with so many of its 6 microseconds left: the words as layout 1 has them. */
+/* 1234H in block 8, suspended with so many of its 6 microseconds left: words that layout 1 had (carried.c has it whole). */
 static void bring_back(uint64_t left)
 {
     fresh();

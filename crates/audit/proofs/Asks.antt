@@ -17,9 +17,10 @@ asks-nothing = (
         until-change = tt;
         debris-needed = tt;
       }),
-  (λ part words cells debris t a w n.
+  (λ part words stored cells debris t a w n.
       record {
         fresh = tt;
+        carry = tt;
         read = tt;
         write = tt;
         wait = tt;

@@ -15,13 +15,13 @@ use Rattle.plain.specs.declared.Erase.{Erase}
 use Rattle.plain.specs.declared.Inside.{Inside}
 use Rattle.plain.specs.declared.Inside.the-variants.{Nothing, Runs}
 use Rattle.plain.specs.declared.Operation.{Operation}
-use Rattle.plain.specs.declared.Operation.the-variants.{Idle, Programming, ProgramSuspended, Window, Erasing, EraseSuspended, ChipErasing}
+use Rattle.plain.specs.declared.Operation.the-variants.{Idle, Programming, ProgramSuspended, Window, Erasing, Recovering, EraseSuspended, ChipErasing}
 use Rattle.plain.specs.declared.Running.{Running}
-use Rattle.plain.specs.declared.Running.the-variants.{Still, Programs, Waits, Erases, ErasesChip}
+use Rattle.plain.specs.declared.Running.the-variants.{Still, Programs, Waits, Erases, Recovers, ErasesChip}
 use Rattle.plain.specs.declared.Device.{Device}
 use Rattle.plain.specs.Cut.{debrisNeeded}
 use Rattle.plain.specs.Events.{read, wait, cut}
-use Rattle.plain.specs.Figures.{programTime, windowTime, eraseTime, chipTime, clockLimit}
+use Rattle.plain.specs.Figures.{programTime, windowTime, eraseTime, recoveryTime, chipTime, clockLimit}
 use Rattle.plain.specs.Lent.{Lent, lent}
 use Rattle.plain.specs.Machine.{Outcome, Fit, readEvent, waitEvent, cutEvent, step}
 use Rattle.plain.specs.Operations.{runningOf, runningInside}
@@ -29,10 +29,10 @@ use Rattle.plain.specs.Record.{suspended}
 use Rattle.plain.specs.Refusals.{number}
 use Rattle.plain.specs.Sound.{operationSound, sound, isStill}
 use Rattle.plain.proofs.EventLaws.{cut-debris, cut-passes}
-use Rattle.plain.proofs.Facts.{sound-operation, programming, window, erasing, inside-runs, chip-erasing}
+use Rattle.plain.proofs.Facts.{sound-operation, programming, window, erasing, recovering, inside-runs, chip-erasing}
 use Rattle.plain.proofs.Tools.{both, both-left, both-right, by-cases}
 use Rattle.remaining.specs.declared.Change.{Change}
-use Rattle.remaining.specs.declared.Change.the-variants.{Never, WindowEnds, WordDone, BlockDone}
+use Rattle.remaining.specs.declared.Change.the-variants.{Never, WindowEnds, RecoveryEnds, WordDone, BlockDone}
 use Rattle.remaining.specs.Remaining.{toCome, untilEnd, changeOf}
 use Rattle.remaining.proofs.Counting.{rest-sums}
 use Rattle.foretold.specs.Foretold.{comeBy, comesAt, changesAt}
@@ -86,9 +86,9 @@ module _ (part : ℕ) (i : List ℕ) (s : standsSound part i ≡ true) where
 -- ---- no time is K5L_NONE
 
 module _ (p : Part) where
-  times-short : (programTime p < 1000000) × ((windowTime p < 1000000) × ((eraseTime p < 1000000) × (chipTime p < 1000000)))
-  unfolding programTime windowTime eraseTime chipTime
-  times-short = (lit≤ tt, (lit≤ tt, (lit≤ tt, lit≤ tt)))
+  times-short : (programTime p < 1000000) × ((windowTime p < 1000000) × ((eraseTime p < 1000000) × ((chipTime p < 1000000) × (recoveryTime p < 1000000))))
+  unfolding programTime windowTime eraseTime chipTime recoveryTime
+  times-short = (lit≤ tt, (lit≤ tt, (lit≤ tt, (lit≤ tt, lit≤ tt))))
 
   rest-short : (list : Blocks) (hand left full : ℕ) → left < 1000000 → full < 1000000 → left + toCome p list hand * full + full < none
   rest-short list hand left full g h = omega (arith, rest-sums p list hand full (suc left) (omega arith) (omega arith) .1)
@@ -110,10 +110,11 @@ module _ (p : Part) where
     end-short (Erasing e) s =
         let few : e .left < 1000000 = omega (arith, erasing p bits e s .erase .most-left, times-short .1 .1 .0) in
         omega (arith, rest-short (e .list) (e .hand) (e .left) (eraseTime p) few (times-short .1 .1 .0))
+    end-short (Recovering r) s = omega (arith, recovering p bits r s .most-left, times-short .1 .1 .1 .1)
     end-short (EraseSuspended s) h = inside-short (s .erase) (s .inside) h
     end-short (ChipErasing e) s =
-        let few : e .left < 1000000 = omega (arith, chip-erasing p bits e s .most-left, times-short .1 .1 .1) in
-        omega (arith, rest-short (e .list) (e .hand) (e .left) (chipTime p) few (times-short .1 .1 .1))
+        let few : e .left < 1000000 = omega (arith, chip-erasing p bits e s .most-left, times-short .1 .1 .1 .0) in
+        omega (arith, rest-short (e .list) (e .hand) (e .left) (chipTime p) few (times-short .1 .1 .1 .0))
 
   -- where anything runs the next change has a time
   time-short : (x : Running) → untilEnd p x < none → isStill x ≡ eqb (changeTime (changeOf x)) none
@@ -122,6 +123,7 @@ module _ (p : Part) where
   time-short (Programs q) h = sym (ne-eqb (q .left) none (λ d. omega (arith, h, d)))
   time-short (Waits e) h = sym (ne-eqb (e .left) none (λ d. omega (arith, h, d)))
   time-short (Erases e) h = sym (ne-eqb (e .left) none (λ d. omega (arith, h, d)))
+  time-short (Recovers r) h = sym (ne-eqb (r .left) none (λ d. omega (arith, h, d)))
   time-short (ErasesChip e) h = sym (ne-eqb (e .left) none (λ d. omega (arith, h, d)))
 
 pub told-calls : ToldCalls
@@ -226,6 +228,7 @@ module _ (part : ℕ) (words cells : List ℕ) (f : Faced) (k : ℕ) (c : Called
       elsewhere : (y : Change) (x : ℕ) → (changeWord y ≡ x → ⊥) → (changeBlock y ≡ blockOf p x → ⊥) → changesAt p y x ≡ false
       elsewhere Never x no-word no-block = refl
       elsewhere (WindowEnds n) x no-word no-block = refl
+      elsewhere (RecoveryEnds n) x no-word no-block = refl
       elsewhere (WordDone d) x no-word no-block = ne-eqb x (d .at) (λ s. no-word (sym s))
       elsewhere (BlockDone d) x no-word no-block = ne-eqb (blockOf p x) (d .at) (λ s. no-block (sym s))
 
@@ -245,6 +248,7 @@ not-yet : (c : Change) (k : ℕ) → k < changeTime c → comeBy c k ≡ false
 unfolding changeTime comeBy
 not-yet Never k h = refl
 not-yet (WindowEnds n) k h = lt-leb n k h
+not-yet (RecoveryEnds n) k h = lt-leb n k h
 not-yet (WordDone d) k h = lt-leb (d .after) k h
 not-yet (BlockDone d) k h = lt-leb (d .after) k h
 
@@ -252,6 +256,7 @@ comes : (c : Change) (k : ℕ) → k < none → changeTime c ≡ k → comesAt c
 unfolding changeTime comesAt
 comes Never k g h = absurd (omega (arith, g, h))
 comes (WindowEnds n) k g h = eq-eqb n k h
+comes (RecoveryEnds n) k g h = eq-eqb n k h
 comes (WordDone d) k g h = eq-eqb (d .after) k h
 comes (BlockDone d) k g h = eq-eqb (d .after) k h
 

@@ -12,7 +12,7 @@ use Rattle.plain.specs.Lent.{lent}
 use Rattle.plain.specs.Machine.{Ran, step, run}
 use Rattle.plain.specs.Record.{fresh}
 use Rattle.plain.specs.Refusals.{number}
-use Rattle.plain.proofs.Data.{Short, dataOf}
+use Rattle.plain.proofs.Data.{Short, dataOf, recoveryLeft}
 use Rattle.plain.proofs.Tools.{by-cases}
 use Rattle.history.proofs.Demand.{demand-3, holding, programs-leave-data, charge-by-history}
 use Rattle.history.proofs.Kept.{always-sound, never-state}
@@ -36,8 +36,8 @@ made-fresh (made t at before d) =
     (λ e. let wrong : 0 ≡ 1 = rw e at (d .0) in absurd (omega (arith, wrong)))
 
 fresh-short : Short (fresh .operation)
-unfolding dataOf
-fresh-short = lit< tt
+unfolding dataOf recoveryLeft
+fresh-short = (lit< tt, lit< tt)
 
 pub runs-are : {part : ℕ} {start : List ℕ} {es : List Event} {ran : Held} → (f : CallRuns part start es ran) → RanAs part (f .known) fresh start es ran
 runs-are {part} {start} {es} {ran} f = calls-are part (f .known) fresh (f .first) start start es ran (made-fresh (f .made)) refl fresh-short (f .calls)

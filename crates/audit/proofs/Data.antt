@@ -1,4 +1,5 @@
--- The data of a record's program has 16 bits if that of each write has: so every record that a call leaves has an image.
+-- The data of a record's program has 16 bits if that of each write has, and a recovery has time left: so every record that a call
+-- leaves has an image.
 use Prim.Native.Nat.{ℕ, _<_}
 use mathlib.Core.Path.{_≡_, refl}
 use mathlib.Core.List.{List}
@@ -9,13 +10,13 @@ use Rattle.plain.specs.declared.Erase.{Erase}
 use Rattle.plain.specs.declared.Inside.{Inside}
 use Rattle.plain.specs.declared.Inside.the-variants.{Nothing, Runs}
 use Rattle.plain.specs.declared.Operation.{Operation}
-use Rattle.plain.specs.declared.Operation.the-variants.{Idle, Programming, ProgramSuspended, Window, Erasing, EraseSuspended, ChipErasing}
+use Rattle.plain.specs.declared.Operation.the-variants.{Idle, Programming, ProgramSuspended, Window, Erasing, Recovering, EraseSuspended, ChipErasing}
 use Rattle.plain.specs.declared.Effect.the-variants.{Starts}
 use Rattle.plain.specs.declared.Device.{Device}
 use Rattle.plain.specs.Events.{Event, read, write, wait, cut}
 use Rattle.plain.specs.Lent.{Lent}
 use Rattle.plain.specs.Machine.{step}
-use Rattle.plain.proofs.Data.{insideData, dataOf, Short, short-lasts}
+use Rattle.plain.proofs.Data.{insideData, dataOf, recoveryLeft, Short, short-lasts}
 use Rattle.history.proofs.KeptOperation.{step-keeps}
 use Rattle.history.proofs.KeptWrite.{Fine, starts}
 use Rattle.layout.specs.declared.OperationParts.{OperationParts}
@@ -38,15 +39,17 @@ data-told (Programming q) = refl
 data-told (ProgramSuspended q) = refl
 data-told (Window e) = refl
 data-told (Erasing e) = refl
+data-told (Recovering r) = refl
 data-told (EraseSuspended s) = inside-told (s .erase) (s .inside)
 data-told (ChipErasing e) = refl
 
 pub short-fits : (r : Device) → Short (r .operation) → Fits r
-short-fits r h = rw (data-told (r .operation)) h
+unfolding recoveryLeft
+short-fits r h = record { word = rw (data-told (r .operation)) (h .0); recovery = λ x e. rw e at (h .1) }
 
 of-parts : (o : OperationParts) → o .program .writes .word < 65536 → Short (operationOf o)
-unfolding dataOf insideData
-of-parts o h = by-number Short short-lasts o h (λ _. h) h
+unfolding dataOf insideData recoveryLeft
+of-parts o h = by-number Short short-lasts o (h, lit< tt) (λ _. (h, lit< tt)) (h, lit< tt)
 
 pub image-short : (i : List ℕ) → Short (deviceOf i .operation)
 unfolding deviceOf
@@ -72,4 +75,4 @@ starts-short r g h x (starts _ short _ _) = short g h
 pub step-short : (p : Part) (r : Device) (l : Lent) → Short (r .operation) → (e : Event) → Brief e → Short (step p r l e .answer .device .operation)
 unfolding Brief
 step-short p r l h e c =
-    step-keeps p r l Short short-lasts h e (λ o same. rw (same .word) h) (λ a w is. starts-short r (rw is at c) h)
+    step-keeps p r l Short short-lasts h e (λ o same. same .short h) (λ a w is. starts-short r (rw is at c) h)

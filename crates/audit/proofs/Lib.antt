@@ -10,6 +10,7 @@ pub mod Called
 pub mod Calls
 pub mod CallPromises
 pub mod CallAsked
+pub mod CallCarried
 pub mod SuspendedProgram
 pub mod Raise
 pub mod Foreseen

@@ -19,7 +19,7 @@ use Rattle.plain.specs.declared.SuspendedErase.{SuspendedErase}
 use Rattle.plain.specs.declared.Inside.{Inside}
 use Rattle.plain.specs.declared.Inside.the-variants.{Nothing, Runs}
 use Rattle.plain.specs.declared.Operation.{Operation}
-use Rattle.plain.specs.declared.Operation.the-variants.{Idle, Programming, ProgramSuspended, Window, Erasing, EraseSuspended, ChipErasing}
+use Rattle.plain.specs.declared.Operation.the-variants.{Idle, Programming, ProgramSuspended, Window, Erasing, Recovering, EraseSuspended, ChipErasing}
 use Rattle.plain.specs.declared.Running.the-variants.{Programs, Erases}
 use Rattle.plain.specs.declared.Place.{Place}
 use Rattle.plain.specs.declared.Place.the-variants.{At}
@@ -104,6 +104,7 @@ module _ (p : Part) (x : ℕ) where
     tick-same (ProgramSuspended q) f h = refl
     tick-same (Window e) f h = refl
     tick-same (Erasing e) f h = erase-same e (not-true _ (both-left (not (eqb (bankOf p x) (bankOfBlock p (e .hand)))) _ h))
+    tick-same (Recovering r) f h = refl
     tick-same (EraseSuspended s) f h = inside-same s (s .inside) refl f (both-left (not (runsIn p (runningInside (s .inside)) (bankOf p x))) _ h)
     tick-same (ChipErasing e) f h = clash h refl
 
@@ -135,6 +136,7 @@ module _ (p : Part) (x : ℕ) where
   no-word (ProgramSuspended q) h d e = program-misses q d e (not-true _ h)
   no-word (Window w) h d e = no-program e
   no-word (Erasing w) h d e = no-program e
+  no-word (Recovering w) h d e = no-program e
   no-word (EraseSuspended s) h d e = inside-word (s .inside) (both-left (not (runsIn p (runningInside (s .inside)) (bankOf p x))) _ h) d e
   no-word (ChipErasing w) h d e = no-program e
 
@@ -148,6 +150,8 @@ module _ (p : Part) (x : ℕ) where
   no-block (ProgramSuspended q) h b e = nowhere e
   no-block (Window w) h b e = nowhere e
   no-block (Erasing w) h b e = not-in-hand (w .left) (eraseTime p) (w .hand) (both-left (not (eqb (bankOf p x) (bankOfBlock p (w .hand)))) _ h) b e
+  no-block (Recovering w) h b e =
+      not-in-hand (w .erase .left) (eraseTime p) (w .erase .hand) (both-left (not (eqb (bankOf p x) (bankOfBlock p (w .erase .hand)))) _ h) b e
   no-block (EraseSuspended s) h b e =
       not-in-hand (s .erase .left) (eraseTime p) (s .erase .hand) (both-right (not (runsIn p (runningInside (s .inside)) (bankOf p x))) _ h) b e
   no-block (ChipErasing w) h b e = clash h refl

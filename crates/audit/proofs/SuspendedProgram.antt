@@ -9,7 +9,7 @@ use Rattle.plain.specs.declared.Erase.{Erase}
 use Rattle.plain.specs.declared.Inside.{Inside}
 use Rattle.plain.specs.declared.Inside.the-variants.{Nothing, Runs}
 use Rattle.plain.specs.declared.Operation.{Operation}
-use Rattle.plain.specs.declared.Operation.the-variants.{Idle, Programming, ProgramSuspended, Window, Erasing, EraseSuspended, ChipErasing}
+use Rattle.plain.specs.declared.Operation.the-variants.{Idle, Programming, ProgramSuspended, Window, Erasing, Recovering, EraseSuspended, ChipErasing}
 use Rattle.plain.specs.declared.Device.{Device}
 use Rattle.plain.specs.Commands.{programIsSuspended}
 use Rattle.plain.specs.Events.{Event}
@@ -52,6 +52,7 @@ number-says (Programming q) = refl
 number-says (ProgramSuspended q) = refl
 number-says (Window e) = refl
 number-says (Erasing e) = refl
+number-says (Recovering r) = refl
 number-says (EraseSuspended s) = inside-says (s .erase) (s .inside)
 number-says (ChipErasing e) = refl
 

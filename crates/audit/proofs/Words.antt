@@ -11,7 +11,7 @@ use Rattle.geometry.specs.Parts.{blockOf}
 use Rattle.protection.specs.declared.Protection.{Protection}
 use Rattle.plain.specs.declared.Refusal.the-variants.{Address, Clock, Debris}
 use Rattle.plain.specs.declared.Running.{Running}
-use Rattle.plain.specs.declared.Running.the-variants.{Still, Programs, Waits, Erases, ErasesChip}
+use Rattle.plain.specs.declared.Running.the-variants.{Still, Programs, Waits, Erases, Recovers, ErasesChip}
 use Rattle.plain.specs.declared.Suspension.{Suspension}
 use Rattle.plain.specs.declared.Suspension.the-variants.{Unsuspended, OfProgram, OfErase}
 use Rattle.plain.specs.declared.Command.{Command}
@@ -49,6 +49,7 @@ running-short Still = lit< tt
 running-short (Programs q) = status-short (dq7 (q .writes)) (q .dq6) false true
 running-short (Waits e) = status-short false (e .dq6) false (e .dq2)
 running-short (Erases e) = status-short false (e .dq6) true (e .dq2)
+running-short (Recovers r) = status-short false (r .erase .dq6) true (r .erase .dq2)
 running-short (ErasesChip e) = status-short false (e .dq6) true (e .dq2)
 
 rest-short : (s : Suspension) → SixteenBits (restWord s)

@@ -24,6 +24,7 @@ use Rattle.machine.proofs.until_end.Reads as UntilEnd
 use Rattle.machine.proofs.until_change.Reads as UntilChange
 use Rattle.machine.proofs.debris_needed.Reads as DebrisNeeded
 use Rattle.emulator.proofs.k5l_fresh.Reads as CFresh
+use Rattle.emulator.proofs.k5l_carry.Reads as CCarry
 use Rattle.emulator.proofs.k5l_read.Reads as CRead
 use Rattle.emulator.proofs.k5l_write.Reads as CWrite
 use Rattle.emulator.proofs.k5l_wait.Reads as CWait
@@ -59,8 +60,9 @@ pub record MachineAsks (p : Part) (r : Device) (cells debris : RefT (List ℕ)) 
   pub debris-needed : DebrisNeeded.Asked tt (p, (r, tt))
 
 -- the functions of the header
-pub record HeaderAsks (part : ℕ) (words cells debris : RefT (List ℕ)) (t : Lfts 3) (a w n : ℕ) : Type 0 where
+pub record HeaderAsks (part : ℕ) (words stored cells debris : RefT (List ℕ)) (t : Lfts 3) (a w n : ℕ) : Type 0 where
   pub fresh : CFresh.Asked (t .0, tt) (words, tt)
+  pub carry : CCarry.Asked (t .0, (t .1 .0, tt)) (stored, (words, tt))
   pub read : CRead.Asked (t .0, (t .1 .0, tt)) (part, (words, (cells, (a, tt))))
   pub write : CWrite.Asked (t .0, (t .1 .0, tt)) (part, (words, (cells, (a, (w, tt)))))
   pub wait : CWait.Asked (t .0, (t .1 .0, tt)) (part, (words, (cells, (n, tt))))
@@ -90,4 +92,4 @@ pub record HeaderAsks (part : ℕ) (words cells debris : RefT (List ℕ)) (t : L
 abbrev pub AsksNothing : Type 0
 AsksNothing =
     ((p : Part) (r : Device) (cells debris : RefT (List ℕ)) (t : Lfts 2) (a w n : ℕ) → MachineAsks p r cells debris t a w n)
-    × ((part : ℕ) (words cells debris : RefT (List ℕ)) (t : Lfts 3) (a w n : ℕ) → HeaderAsks part words cells debris t a w n)
+    × ((part : ℕ) (words stored cells debris : RefT (List ℕ)) (t : Lfts 3) (a w n : ℕ) → HeaderAsks part words stored cells debris t a w n)

@@ -11,7 +11,8 @@ use Rattle.plain.specs.declared.Refusal.the-variants.{Done, State, Debris}
 use Rattle.plain.specs.declared.Written.{Written}
 use Rattle.plain.specs.Cut.{debrisNeeded}
 use Rattle.plain.specs.Events.{Event, read, cut}
-use Rattle.plain.specs.History.{Told, history, holds}
+use Rattle.plain.specs.History.{Told, history}
+use Rattle.plain.specs.Holds.{holds}
 use Rattle.plain.specs.Lent.{lent}
 use Rattle.plain.specs.Programs.{datum}
 use Rattle.plain.specs.Promises.{Left, LastEnded}

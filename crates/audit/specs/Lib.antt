@@ -4,6 +4,7 @@ pub mod Performed
 pub mod Promises
 pub mod Called
 pub mod CallPromises
+pub mod CallCarried
 pub mod Raise
 pub mod Mapped
 pub mod Foreseen

@@ -13,7 +13,8 @@ use Rattle.plain.specs.declared.Device.{Device}
 use Rattle.plain.specs.declared.Answer.{Answer}
 use Rattle.plain.specs.Ends.{endsInWait}
 use Rattle.plain.specs.Events.{Event, read, wait, cut}
-use Rattle.plain.specs.History.{history, holds}
+use Rattle.plain.specs.History.{history}
+use Rattle.plain.specs.Holds.{holds}
 use Rattle.plain.specs.Lent.{Lent, cellAt}
 use Rattle.plain.specs.Machine.{Ran}
 use Rattle.plain.specs.Programs.{datum}

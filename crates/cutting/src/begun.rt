@@ -25,6 +25,10 @@ pub fn begun_block(part: Part, operation: Operation) -> Place
         Operation::ProgramSuspended(_) => Place::Nowhere,
         Operation::Window(_) => Place::Nowhere,
         Operation::Erasing(erase) => if_begun(erase.left, figures::erase_time(part), erase.hand),
+        Operation::Recovering(recovery) => {
+            let erase = recovery.erase;
+            if_begun(erase.left, figures::erase_time(part), erase.hand)
+        }
         Operation::EraseSuspended(suspended) => {
             let erase = suspended.erase;
             if_begun(erase.left, figures::erase_time(part), erase.hand)
@@ -52,6 +56,7 @@ pub fn begun_program(part: Part, operation: Operation) -> BegunProgram
         Operation::ProgramSuspended(program) => program_begun(part, program),
         Operation::Window(_) => BegunProgram::NoProgram,
         Operation::Erasing(_) => BegunProgram::NoProgram,
+        Operation::Recovering(_) => BegunProgram::NoProgram,
         Operation::EraseSuspended(suspended) => {
             let inside = suspended.inside;
             begun_inside(part, inside)

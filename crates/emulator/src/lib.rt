@@ -2,7 +2,7 @@
 // record, length and number is answered; there is nothing to check before a call. An idle device goes a short way. The long one is
 // called in two places, so the compiler leaves it out of line: what it saves on the stack is not saved for the short one.
 ghost use mathlib.Core.Path.{_≡_};
-ghost use Rattle.face.specs.Face.{packed, freshRefusal, freshImage, faceRead, faceWrite, faceWait, faceCut};
+ghost use Rattle.face.specs.Face.{packed, freshRefusal, freshImage, carriedRefusal, carriedImage, faceRead, faceWrite, faceWait, faceCut};
 
 pub mod addresses;
 pub mod asked_of;
@@ -14,6 +14,14 @@ pub extern "C" fn k5l_fresh(words: &mut [u64]) -> u64
     ensures { λ r. ⌜ now (words .exit) ≡ freshImage (now (words .entry)) ⌝ }
 {
     idling::fresh::make(words)
+}
+
+#[no_mangle]
+pub extern "C" fn k5l_carry(stored: &[u64], words: &mut [u64]) -> u64
+    ensures { λ r. ⌜ r ≡ carriedRefusal (now (stored .entry)) (now (words .entry)) ⌝ }
+    ensures { λ r. ⌜ now (words .exit) ≡ carriedImage (now (stored .entry)) (now (words .entry)) ⌝ }
+{
+    carrying::carry(stored, words)
 }
 
 #[no_mangle]

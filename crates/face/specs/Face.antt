@@ -19,6 +19,7 @@ use Rattle.plain.specs.Sound.{sound}
 use Rattle.plain.specs.Machine.{Outcome, readEvent, writeEvent, waitEvent, cutEvent}
 use Rattle.layout.specs.Places.{recordWords}
 use Rattle.layout.specs.Image.{imageOf, wellFormed, deviceOf}
+use Rattle.layout.specs.Carried.{carriable, carried}
 
 -- ---- which part, which record
 
@@ -84,6 +85,18 @@ freshRefusal i = if eqb (length i) recordWords then number Done else number Stat
 
 abbrev pub freshImage : List ℕ → List ℕ
 freshImage i = if eqb (length i) recordWords then imageOf fresh else i
+
+-- ---- a stored record, carried over
+
+-- "K5L_STATE for stored words of no such layout, or another number of words in `record`, and nothing is touched"
+abbrev pub mayCarry : (stored i : List ℕ) → Bool
+mayCarry stored i = carriable stored && eqb (length i) recordWords
+
+abbrev pub carriedRefusal : (stored i : List ℕ) → ℕ
+carriedRefusal stored i = if mayCarry stored i then number Done else number State
+
+abbrev pub carriedImage : (stored i : List ℕ) → List ℕ
+carriedImage stored i = if mayCarry stored i then carried stored else i
 
 -- ---- what is asked besides
 

@@ -12,16 +12,16 @@ use Rattle.plain.specs.declared.Erase.{Erase}
 use Rattle.plain.specs.declared.Inside.{Inside}
 use Rattle.plain.specs.declared.Inside.the-variants.{Nothing, Runs}
 use Rattle.plain.specs.declared.Operation.{Operation}
-use Rattle.plain.specs.declared.Operation.the-variants.{Idle, Programming, ProgramSuspended, Window, Erasing, EraseSuspended, ChipErasing}
+use Rattle.plain.specs.declared.Operation.the-variants.{Idle, Programming, ProgramSuspended, Window, Erasing, Recovering, EraseSuspended, ChipErasing}
 use Rattle.plain.specs.declared.Command.{Command}
 use Rattle.plain.specs.declared.Seen.{Seen}
 use Rattle.plain.specs.Choice.{if_then_else_}
 use Rattle.plain.specs.Lent.{Lent, cellAt}
 use Rattle.plain.specs.Operations.{runningOf, runningInside, suspensionOf}
-use Rattle.plain.specs.Record.{programLeft, eraseLeft, suspended}
+use Rattle.plain.specs.Record.{programLeft, eraseLeft, suspended, recovery}
 use Rattle.plain.specs.Status.{look, polls, polled, insidePolled, status, readingOn, readingWord, rests, rested, restWord, seen}
 use Rattle.plain.specs.Time.{Moment, moment, ticks}
-use Rattle.plain.proofs.InTime.{idle-still, program-still, erase-still, program-running, inside-running, window-running, erase-running}
+use Rattle.plain.proofs.InTime.{idle-still, program-still, erase-still, program-running, inside-running, window-running, erase-running, recovery-running}
 use Rattle.plain.proofs.Ticks.{still, drift}
 use Rattle.remaining.specs.Remaining.{changeOf}
 use Rattle.foretold.specs.Foretold.{comeBy, timeless, Unchanged, UnchangedTill}
@@ -78,6 +78,10 @@ module _ (p : Part) where
   unfolding timeless runningOf suspensionOf polls polled status rests rested restWord
   erase-alike e n = record { runs = refl; rests = refl; shows = λ bits c l a. refl }
 
+  recovery-alike : (e : Erase) (m n : ℕ) → Alike (Recovering (recovery e m)) (Recovering (recovery e n))
+  unfolding timeless runningOf suspensionOf polls polled status rests rested restWord
+  recovery-alike e m n = record { runs = refl; rests = refl; shows = λ bits c l a. refl }
+
   chip-alike : (e : Erase) (n : ℕ) → Alike (ChipErasing e) (ChipErasing (eraseLeft e n))
   unfolding timeless runningOf suspensionOf polls polled status rests rested restWord
   chip-alike e n = record { runs = refl; rests = refl; shows = λ bits c l a. refl }
@@ -103,6 +107,8 @@ module _ (p : Part) where
       unchanged mt _ _ _ l k (window-alike e (e .left - k)) (drift p _ _ _ _ (window-running p e) k (e .left) mt l (leb-false (e .left) k h))
   till (Erasing e) mt l k h =
       unchanged mt _ _ _ l k (erase-alike e (e .left - k)) (drift p _ _ _ _ (erase-running p false e) k (e .left) mt l (leb-false (e .left) k h))
+  till (Recovering r) mt l k h =
+      unchanged mt _ _ _ l k (recovery-alike (r .erase) (r .left) (r .left - k)) (drift p _ _ _ _ (recovery-running p (r .erase)) k (r .left) mt l (leb-false (r .left) k h))
   till (EraseSuspended s) mt l k h = inside-till (s .erase) (s .inside) mt l k h
   till (ChipErasing e) mt l k h =
       unchanged mt _ _ _ l k (chip-alike e (e .left - k)) (drift p _ _ _ _ (erase-running p true e) k (e .left) mt l (leb-false (e .left) k h))

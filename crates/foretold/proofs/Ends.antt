@@ -14,9 +14,9 @@ use Rattle.plain.specs.declared.Erase.{Erase}
 use Rattle.plain.specs.declared.Inside.{Inside}
 use Rattle.plain.specs.declared.Inside.the-variants.{Nothing, Runs}
 use Rattle.plain.specs.declared.Operation.{Operation}
-use Rattle.plain.specs.declared.Operation.the-variants.{Idle, Programming, ProgramSuspended, Window, Erasing, EraseSuspended, ChipErasing}
+use Rattle.plain.specs.declared.Operation.the-variants.{Idle, Programming, ProgramSuspended, Window, Erasing, Recovering, EraseSuspended, ChipErasing}
 use Rattle.plain.specs.declared.Running.{Running}
-use Rattle.plain.specs.declared.Running.the-variants.{Still, Programs, Waits, Erases, ErasesChip}
+use Rattle.plain.specs.declared.Running.the-variants.{Still, Programs, Waits, Erases, Recovers, ErasesChip}
 use Rattle.plain.specs.Figures.{eraseTime, chipTime}
 use Rattle.plain.specs.Operations.{runningOf, runningInside}
 use Rattle.plain.specs.Record.{suspended}
@@ -59,7 +59,7 @@ module _ (p : Part) where
   inside-less e (Runs q) t = by-test (Less (q .left)) (last (q .left)) (λ h. omega (arith, leb-true (q .left) 1 h)) (λ h. refl)
 
   tick-less : (o : Operation) → Timely p (runningOf o) → Less (end o) (operationTick p o)
-  unfolding untilEnd runningOf operationTick Timely
+  unfolding untilEnd runningOf runningInside operationTick Timely
   tick-less Idle t = refl
   tick-less (Programming q) t = by-test (Less (q .left)) (last (q .left)) (λ h. omega (arith, leb-true (q .left) 1 h)) (λ h. refl)
   tick-less (ProgramSuspended q) t = refl
@@ -67,6 +67,7 @@ module _ (p : Part) where
       by-test (Less (end (Window e))) (last (e .left)) (λ h. omega (arith, leb-true (e .left) 1 h, t .some)) (λ h. omega (arith, t .some))
   tick-less (Erasing e) t =
       by-test (Less (end (Erasing e))) (last (e .left)) (λ h. onward-less Erasing (eraseTime p) e (λ x. refl) (omega (arith, leb-true (e .left) 1 h, t .some))) (λ h. omega (arith, t .some))
+  tick-less (Recovering r) t = by-test (Less (r .left)) (last (r .left)) (λ h. omega (arith, leb-true (r .left) 1 h)) (λ h. refl)
   tick-less (EraseSuspended s) t = inside-less (s .erase) (s .inside) t
   tick-less (ChipErasing e) t =
       by-test (Less (end (ChipErasing e))) (last (e .left)) (λ h. onward-less ChipErasing (chipTime p) e (λ x. refl) (omega (arith, leb-true (e .left) 1 h, t .some))) (λ h. omega (arith, t .some))
@@ -77,6 +78,7 @@ module _ (p : Part) where
   still-now (Programs q) t = sym (lt-leb (q .left) 0 t)
   still-now (Waits e) t = sym (lt-leb (untilEnd p (Waits e)) 0 (omega (arith, t .some)))
   still-now (Erases e) t = sym (lt-leb (untilEnd p (Erases e)) 0 (omega (arith, t .some)))
+  still-now (Recovers r) t = sym (lt-leb (r .left) 0 t)
   still-now (ErasesChip e) t = sym (lt-leb (untilEnd p (ErasesChip e)) 0 (omega (arith, t .some)))
 
   one-more : (n k : ℕ) → leb (n - 1) k ≡ leb n (suc k)

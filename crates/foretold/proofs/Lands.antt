@@ -18,10 +18,11 @@ use Rattle.plain.specs.declared.Program.{Program}
 use Rattle.plain.specs.declared.Erase.{Erase}
 use Rattle.plain.specs.declared.Inside.{Inside}
 use Rattle.plain.specs.declared.Inside.the-variants.{Nothing, Runs}
+use Rattle.plain.specs.declared.Recovery.{Recovery}
 use Rattle.plain.specs.declared.Operation.{Operation}
-use Rattle.plain.specs.declared.Operation.the-variants.{Idle, Programming, ProgramSuspended, Window, Erasing, EraseSuspended, ChipErasing}
+use Rattle.plain.specs.declared.Operation.the-variants.{Idle, Programming, ProgramSuspended, Window, Erasing, Recovering, EraseSuspended, ChipErasing}
 use Rattle.plain.specs.declared.Running.{Running}
-use Rattle.plain.specs.declared.Running.the-variants.{Still, Programs, Waits, Erases, ErasesChip}
+use Rattle.plain.specs.declared.Running.the-variants.{Still, Programs, Waits, Erases, Recovers, ErasesChip}
 use Rattle.plain.specs.Figures.{eraseTime, chipTime}
 use Rattle.plain.specs.Lent.{Lent, cellAt}
 use Rattle.plain.specs.Operations.{runningOf, runningInside}
@@ -30,7 +31,7 @@ use Rattle.plain.specs.Record.{suspended}
 use Rattle.plain.specs.Sound.{operationSound}
 use Rattle.plain.specs.Time.{Moment, moment, eraseFinished, onward, ticks}
 use Rattle.plain.proofs.Facts.{ProgramFacts, programming, inside-runs}
-use Rattle.plain.proofs.InTime.{program-running, inside-running, window-running, erase-running}
+use Rattle.plain.proofs.InTime.{program-running, inside-running, window-running, erase-running, recovery-running}
 use Rattle.plain.proofs.Programs.{finished-at}
 use Rattle.plain.proofs.Ticks.{lands}
 use Rattle.plain.proofs.Tools.{by-test, clash}
@@ -49,6 +50,7 @@ handOf Still = 0
 handOf (Programs q) = 0
 handOf (Waits e) = e .hand
 handOf (Erases e) = e .hand
+handOf (Recovers r) = r .erase .hand
 handOf (ErasesChip e) = e .hand
 
 module _ (p : Part) where
@@ -63,6 +65,10 @@ module _ (p : Part) where
   window-ends : (e x : Erase) → Other (Waits e) (Erasing x)
   unfolding timeless runningOf
   window-ends e x h = let z : _≡_ {A = ℕ} 0 1 = cc in absurd (omega arith)
+
+  recovery-ends : (r : Recovery) → Other (Recovers r) (EraseSuspended (suspended (r .erase) Nothing))
+  unfolding timeless runningOf runningInside
+  recovery-ends r h = let z : _≡_ {A = ℕ} 0 1 = cc in absurd (omega arith)
 
   abbrev next : Erase → ℕ
   next e = firstFrom (e .list) (suc (e .hand))
@@ -131,6 +137,9 @@ module _ (p : Part) where
     then (Erasing e) s t h =
         due (e .left) h (λ n. Changed p (moment mt (Erasing e) l) (ticks p n (moment mt (Erasing e) l)))
         (changed mt _ _ _ l (e .left) (lands p _ _ _ _ (erase-running p false e) (e .left) mt l (t .some)) (erase-ends e) (λ x hx g. block-elsewhere l long e x g))
+    then (Recovering r) s t h =
+        due (r .left) h (λ n. Changed p (moment mt (Recovering r) l) (ticks p n (moment mt (Recovering r) l)))
+        (changed mt _ _ _ l (r .left) (lands p _ _ _ _ (recovery-running p (r .erase)) (r .left) mt l t) (recovery-ends r) (λ x hx g. refl))
     then (EraseSuspended s) f t h = inside-then (s .erase) (s .inside) f t h
     then (ChipErasing e) s t h =
         due (e .left) h (λ n. Changed p (moment mt (ChipErasing e) l) (ticks p n (moment mt (ChipErasing e) l)))

@@ -9,16 +9,16 @@ use Rattle.geometry.specs.Parts.{blockOf, wordCount}
 use Rattle.protection.specs.declared.Protection.{Protection}
 use Rattle.plain.specs.declared.Command.{Command}
 use Rattle.plain.specs.declared.Running.{Running}
-use Rattle.plain.specs.declared.Running.the-variants.{Still, Programs, Waits, Erases, ErasesChip}
+use Rattle.plain.specs.declared.Running.the-variants.{Still, Programs, Waits, Erases, Recovers, ErasesChip}
 use Rattle.plain.specs.Lent.{Lent, cellAt}
 use Rattle.plain.specs.Operations.{runningOf, suspensionOf}
 use Rattle.plain.specs.Programs.{finished}
-use Rattle.plain.specs.Record.{programLeft, eraseLeft}
+use Rattle.plain.specs.Record.{programLeft, eraseLeft, recovery}
 use Rattle.plain.specs.Sound.{isStill}
 use Rattle.plain.specs.Status.{look}
 use Rattle.plain.specs.Time.{Moment, eraseFinished, ticks}
 use Rattle.remaining.specs.declared.Change.{Change}
-use Rattle.remaining.specs.declared.Change.the-variants.{Never, WindowEnds, WordDone, BlockDone}
+use Rattle.remaining.specs.declared.Change.the-variants.{Never, WindowEnds, RecoveryEnds, WordDone, BlockDone}
 use Rattle.remaining.specs.Remaining.{Fits, changeOf, untilEnd}
 
 -- ---- the end: something runs before it, and nothing from then on
@@ -33,12 +33,14 @@ EndsThen p =
 unfoldable pub comeBy : Change → (k : ℕ) → Bool
 comeBy Never k = false
 comeBy (WindowEnds n) k = leb n k
+comeBy (RecoveryEnds n) k = leb n k
 comeBy (WordDone f) k = leb (f .after) k
 comeBy (BlockDone f) k = leb (f .after) k
 
 unfoldable pub comesAt : Change → (k : ℕ) → Bool
 comesAt Never k = false
 comesAt (WindowEnds n) k = eqb n k
+comesAt (RecoveryEnds n) k = eqb n k
 comesAt (WordDone f) k = eqb (f .after) k
 comesAt (BlockDone f) k = eqb (f .after) k
 
@@ -46,6 +48,7 @@ comesAt (BlockDone f) k = eqb (f .after) k
 unfoldable pub changesAt : Part → Change → (x : ℕ) → Bool
 changesAt p Never x = false
 changesAt p (WindowEnds n) x = false
+changesAt p (RecoveryEnds n) x = false
 changesAt p (WordDone f) x = eqb x (f .at)
 changesAt p (BlockDone f) x = eqb (blockOf p x) (f .at)
 
@@ -55,6 +58,7 @@ timeless Still = Still
 timeless (Programs q) = Programs (programLeft q 0)
 timeless (Waits e) = Waits (eraseLeft e 0)
 timeless (Erases e) = Erases (eraseLeft e 0)
+timeless (Recovers r) = Recovers (recovery (r .erase) 0)
 timeless (ErasesChip e) = ErasesChip (eraseLeft e 0)
 
 -- no cell has changed, the same runs and rests, and every read gives what it gave
@@ -73,6 +77,7 @@ completed p Still l = l
 completed p (Programs q) l = finished (q .writes) l
 completed p (Waits e) l = l
 completed p (Erases e) l = eraseFinished p e l
+completed p (Recovers r) l = l
 completed p (ErasesChip e) l = eraseFinished p e l
 
 -- something else runs, or nothing; what was in hand is finished, and no word has changed but where it was told

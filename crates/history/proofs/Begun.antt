@@ -15,7 +15,7 @@ use Rattle.plain.specs.declared.Inside.{Inside}
 use Rattle.plain.specs.declared.Inside.the-variants.{Nothing, Runs}
 use Rattle.plain.specs.declared.SuspendedErase.{SuspendedErase}
 use Rattle.plain.specs.declared.Operation.{Operation}
-use Rattle.plain.specs.declared.Operation.the-variants.{Idle, Programming, ProgramSuspended, Window, Erasing, EraseSuspended, ChipErasing}
+use Rattle.plain.specs.declared.Operation.the-variants.{Idle, Programming, ProgramSuspended, Window, Erasing, Recovering, EraseSuspended, ChipErasing}
 use Rattle.plain.specs.declared.Place.{Place}
 use Rattle.plain.specs.declared.Place.the-variants.{At}
 use Rattle.plain.specs.declared.BegunProgram.the-variants.{Writes}
@@ -25,13 +25,13 @@ use Rattle.plain.specs.Operations.{suspensionOf}
 use Rattle.plain.specs.Sound.{operationSound}
 use Rattle.plain.specs.Commands.{programIsSuspended}
 use Rattle.plain.specs.Cut.{begun, ifBegun, begunBlock, programBegun, begunInside, begunProgram}
-use Rattle.plain.specs.History.{Doing, programs, erases, wipes, rests, programsIn}
+use Rattle.plain.specs.History.{Doing, programs, erases, recovers, wipes, rests, programsIn}
 use Rattle.plain.specs.Promises.{ProgramBegun, EraseBegun}
 use Rattle.plain.specs.Promises as said
 use Rattle.plain.proofs.Tools.{by-test, clash}
 use Rattle.plain.proofs.BegunSound.{begins}
 use Rattle.plain.proofs.CutCells.{nowhere, no-program}
-use Rattle.plain.proofs.Facts.{EraseFacts, erasing, erase-suspended, chip-erasing, inside-runs}
+use Rattle.plain.proofs.Facts.{EraseFacts, erasing, recovering, erase-suspended, chip-erasing, inside-runs}
 use Rattle.plain.proofs.Ends.{erasable-free}
 use Rattle.plain.proofs.SuspendedProgram.{Awake}
 use Rattle.history.proofs.Seen.{seenInside, seenOp}
@@ -68,6 +68,7 @@ module _ (p : Part) where
   program-told (ProgramSuspended q) d w h = clash refl w
   program-told (Window e) d w h = no-program h
   program-told (Erasing e) d w h = no-program h
+  program-told (Recovering r) d w h = no-program h
   program-told (EraseSuspended x) d w h = inside-program-told (x .erase) (x .inside) d h
   program-told (ChipErasing e) d w h = no-program h
 
@@ -85,6 +86,9 @@ module _ (p : Part) where
   block-told (Erasing e) b d =
       let t = there (e .left) (eraseTime p) (e .hand) b d in
       rw (← t .place) (said.EraseBegun.running (t .time))
+  block-told (Recovering r) b d =
+      let t = there (r .erase .left) (eraseTime p) (r .erase .hand) b d in
+      rw (← t .place) (said.recovering (t .time))
   block-told (EraseSuspended x) b d = inside-block-told (x .erase) (x .inside) b d
   block-told (ChipErasing e) b d = let t = there (e .left) (chipTime p) (e .hand) b d in rw (← t .place) (said.wiping (t .time))
 
@@ -107,6 +111,7 @@ module _ (p : Part) where
   pub block-is : (o : Operation) (b : ℕ) → EraseBegun (seenOp p o) b → begunBlock p o ≡ At b
   unfolding seenOp begunBlock
   block-is (Erasing e) b (said.EraseBegun.running g) = here (e .left) (eraseTime p) (e .hand) g
+  block-is (Recovering r) b (said.recovering g) = here (r .erase .left) (eraseTime p) (r .erase .hand) g
   block-is (EraseSuspended x) b g = inside-block-is (x .erase) (x .inside) b g
   block-is (ChipErasing e) b (said.wiping g) = here (e .left) (chipTime p) (e .hand) g
 
@@ -118,6 +123,7 @@ module _ (p : Part) where
 
   pub same-block : (h : Doing) {b c : ℕ} → EraseBegun h b → EraseBegun h c → b ≡ c
   same-block (erases l b g) (said.EraseBegun.running u) (said.EraseBegun.running v) = refl
+  same-block (recovers l b g n) (said.recovering u) (said.recovering v) = refl
   same-block (wipes l b g) (said.wiping u) (said.wiping v) = refl
   same-block (rests l b g) (said.resting u) (said.resting v) = refl
   same-block (programsIn d pg l b g) (said.around u) (said.around v) = refl
@@ -135,6 +141,7 @@ module _ (p : Part) where
     block-free (ProgramSuspended q) s b e = nowhere e
     block-free (Window x) s b e = nowhere e
     block-free (Erasing x) s b e = block-free-of x (eraseTime p) b (erasing p bits x s .erase) e
+    block-free (Recovering x) s b e = block-free-of (x .erase) (eraseTime p) b (recovering p bits x s .erase .erase) e
     block-free (EraseSuspended x) s b e = block-free-of (x .erase) (eraseTime p) b (erase-suspended p bits x s .erase) e
     block-free (ChipErasing x) s b e = block-free-of x (chipTime p) b (chip-erasing p bits x s) e
 
@@ -154,5 +161,6 @@ module _ (p : Part) where
     apart (ProgramSuspended q) s d b e f g = nowhere f
     apart (Window x) s d b e f g = no-program e
     apart (Erasing x) s d b e f g = no-program e
+    apart (Recovering x) s d b e f g = no-program e
     apart (EraseSuspended x) s d b e f g = inside-apart x (x .inside) refl s d b e f g
     apart (ChipErasing x) s d b e f g = no-program e

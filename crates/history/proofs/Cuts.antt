@@ -15,7 +15,7 @@ use Rattle.plain.specs.declared.Inside.{Inside}
 use Rattle.plain.specs.declared.Inside.the-variants.{Nothing, Runs}
 use Rattle.plain.specs.declared.SuspendedErase.{SuspendedErase}
 use Rattle.plain.specs.declared.Operation.{Operation}
-use Rattle.plain.specs.declared.Operation.the-variants.{Idle, Programming, ProgramSuspended, Window, Erasing, EraseSuspended, ChipErasing}
+use Rattle.plain.specs.declared.Operation.the-variants.{Idle, Programming, ProgramSuspended, Window, Erasing, Recovering, EraseSuspended, ChipErasing}
 use Rattle.plain.specs.declared.Place.{Place}
 use Rattle.plain.specs.Choice.{if_then_else_}
 use Rattle.plain.specs.Figures.{programTime, eraseTime, chipTime}
@@ -24,7 +24,8 @@ use Rattle.plain.specs.Operations.{suspensionOf}
 use Rattle.plain.specs.Sound.{operationSound}
 use Rattle.plain.specs.Commands.{programIsSuspended}
 use Rattle.plain.specs.Cut.{begun, ifBegun, begunBlock, programBegun, begunInside, begunProgram, blockDebris, debrisNeeded, blockCut, programCut, cutLent}
-use Rattle.plain.specs.History.{Fact, eraseCuts, programCuts, cuts}
+use Rattle.plain.specs.History.{eraseCuts, programCuts, cuts}
+use Rattle.plain.specs.Holds.{Fact}
 use Rattle.plain.proofs.CutCells.{length-block}
 use Rattle.plain.proofs.Facts.{ProgramFacts, programming, inside-runs}
 use Rattle.plain.proofs.SuspendedProgram.{Awake}
@@ -80,5 +81,7 @@ module _ (p : Part) (bits : Protection) where
     cut-holds debris (ProgramSuspended q) w f fs l long enough h = clash refl w
     cut-holds debris (Window e) w f fs l long enough h = h
     cut-holds debris (Erasing e) w f fs l long enough h = block-holds debris fs l (e .left) (eraseTime p) (e .hand) long (omega (arith, enough)) h
+    cut-holds debris (Recovering r) w f fs l long enough h =
+        block-holds debris fs l (r .erase .left) (eraseTime p) (r .erase .hand) long (omega (arith, enough)) h
     cut-holds debris (EraseSuspended x) w f fs l long enough h = inside-holds debris x (x .inside) refl f fs l long (omega (arith, enough)) h
     cut-holds debris (ChipErasing e) w f fs l long enough h = block-holds debris fs l (e .left) (chipTime p) (e .hand) long (omega (arith, enough)) h

@@ -23,7 +23,8 @@ use Rattle.plain.specs.Record.{fresh}
 use Rattle.plain.specs.Sound.{operationSound}
 use Rattle.plain.specs.Cut.{begunBlock, begunProgram, blockDebris, debrisNeeded, blockCut, cutLent, cutDevice}
 use Rattle.plain.specs.Machine.{Outcome, cutEvent, step, run, Fit}
-use Rattle.plain.specs.History.{Fact, Told, history, holds}
+use Rattle.plain.specs.History.{Told, history}
+use Rattle.plain.specs.Holds.{Fact, holds}
 use Rattle.plain.specs.Promises.{ProgramBegun, EraseBegun, Left, Demand3, Holding, ProgramsLeaveData, Agrees, ChargeByHistory}
 use Rattle.plain.proofs.Tools.{by-cases, clash}
 use Rattle.plain.proofs.BegunSound.{program-free, begun-lies}

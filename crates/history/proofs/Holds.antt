@@ -16,7 +16,7 @@ use Rattle.plain.specs.declared.Erase.{Erase}
 use Rattle.plain.specs.Lent.{Lent, withCells, cellAt}
 use Rattle.plain.specs.Programs.{writes, liesIn, finished, cutOff}
 use Rattle.plain.specs.Time.{eraseFinished}
-use Rattle.plain.specs.History.{Fact, programDone, eraseDone, programCut, eraseCut, afterFact, holds}
+use Rattle.plain.specs.Holds.{Fact, programDone, eraseDone, programCut, eraseCut, afterFact, holds}
 use Rattle.plain.proofs.Programs.{finished-at, cut-at}
 use Rattle.plain.proofs.Tools.{by-cases}
 

@@ -3,14 +3,14 @@ use mathlib.Core.Path.{refl}
 use Rattle.blocks.specs.Blocks.{has, pack, setOf, some, seek}
 use Rattle.geometry.specs.Parts.{blockCount, bankCount, unitOf, blockIn, bankIn, bankOfBlock}
 use Rattle.protection.specs.Protection.{protectedBy}
-use Rattle.plain.specs.Figures.{programTime, windowTime, eraseTime, chipTime, runningCurrent, clockLimit}
+use Rattle.plain.specs.Figures.{programTime, windowTime, eraseTime, recoveryTime, chipTime, runningCurrent, clockLimit}
 use Rattle.plain.specs.Programs.{liesIn, blockWritten}
 use Rattle.plain.specs.Operations.{runningInside, runningOf, suspensionOf}
 use Rattle.plain.specs.Sound.{meterSound, programSound, listSound, chipListSound, lowest, insideSound, operationSound, cycleInRange, readingInRange, cycleInSuspension, cycleSound, stillCommand, isGround, isStill, commandSound, sound}
 use Rattle.plain.specs.Judged.{JudgedRight}
 
 pub judged-right : JudgedRight
-unfolding has pack setOf some seek blockCount bankCount unitOf blockIn bankIn bankOfBlock protectedBy programTime windowTime eraseTime chipTime runningCurrent clockLimit
+unfolding has pack setOf some seek blockCount bankCount unitOf blockIn bankIn bankOfBlock protectedBy programTime windowTime eraseTime recoveryTime chipTime runningCurrent clockLimit
     liesIn blockWritten runningInside runningOf suspensionOf
     meterSound programSound listSound chipListSound lowest insideSound operationSound
     cycleInRange readingInRange cycleInSuspension cycleSound stillCommand isGround isStill commandSound sound

@@ -7,7 +7,7 @@ use Rattle.plain.specs.declared.Erase.{Erase}
 use Rattle.plain.specs.declared.Inside.{Inside}
 use Rattle.plain.specs.declared.Inside.the-variants.{Nothing, Runs}
 use Rattle.plain.specs.declared.Operation.{Operation}
-use Rattle.plain.specs.declared.Operation.the-variants.{Idle, Programming, ProgramSuspended, Window, Erasing, EraseSuspended, ChipErasing}
+use Rattle.plain.specs.declared.Operation.the-variants.{Idle, Programming, ProgramSuspended, Window, Erasing, Recovering, EraseSuspended, ChipErasing}
 use Rattle.plain.specs.declared.Suspension.the-variants.{OfErase}
 use Rattle.plain.specs.declared.Command.{Command}
 use Rattle.plain.specs.declared.Command.the-variants.{Ground, Entering, Reads}
@@ -19,7 +19,7 @@ use Rattle.plain.specs.Commands.{programIsSuspended}
 use Rattle.plain.specs.Sound.{programSound, listSound, chipListSound, lowest, insideSound, operationSound, isStill, stillCommand, cycleSound, commandSound}
 use Rattle.plain.specs.Status.{polls, polled, insidePolled, readingOn, rests, rested, look}
 use Rattle.plain.specs.SuspendedProgram.{programRests}
-use Rattle.plain.proofs.Data.{insideData, dataOf}
+use Rattle.plain.proofs.Data.{insideData, dataOf, recoveryLeft, Short}
 use Rattle.plain.proofs.Modest.{raisesInside, raisesIn}
 use Rattle.plain.proofs.Tools.{by-test}
 
@@ -27,31 +27,32 @@ module _ (p : Part) (bits : Protection) where
   pub record Alike (o x : Operation) : Type 0 where
     pub operation : operationSound p bits x ≡ operationSound p bits o
     pub command : (c : Command) → commandSound p x c ≡ commandSound p o c
-    pub word : dataOf x ≡ dataOf o
+    pub short : Short o → Short x
     pub resting : programRests x ≡ programRests o
     pub modest : (l : Lent) → raisesIn l x ≡ raisesIn l o
 
-  alike : {o x : Operation} → operationSound p bits x ≡ operationSound p bits o → ((c : Command) → commandSound p x c ≡ commandSound p o c) → dataOf x ≡ dataOf o → programRests x ≡ programRests o
+  alike : {o x : Operation} → operationSound p bits x ≡ operationSound p bits o → ((c : Command) → commandSound p x c ≡ commandSound p o c) → (Short o → Short x) → programRests x ≡ programRests o
       → ((l : Lent) → raisesIn l x ≡ raisesIn l o) → Alike o x
-  alike f g d h m = record { operation = f; command = g; word = d; resting = h; modest = m }
+  alike f g d h m = record { operation = f; command = g; short = d; resting = h; modest = m }
 
   itself : (o : Operation) → Alike o o
-  itself o = alike refl (λ c. refl) refl refl (λ l. refl)
+  itself o = alike refl (λ c. refl) (λ h. h) refl (λ l. refl)
 
   inside-polled : (e : Erase) (i : Inside) → Alike (EraseSuspended (suspended e i)) (EraseSuspended (suspended e (insidePolled i)))
-  unfolding insidePolled operationSound insideSound programSound commandSound isStill runningOf runningInside suspensionOf dataOf insideData raisesIn raisesInside
-  inside-polled e Nothing = alike refl (λ c. refl) refl refl (λ l. refl)
-  inside-polled e (Runs q) = alike refl (λ c. refl) refl refl (λ l. refl)
+  unfolding insidePolled operationSound insideSound programSound commandSound isStill runningOf runningInside suspensionOf dataOf recoveryLeft insideData raisesIn raisesInside
+  inside-polled e Nothing = alike refl (λ c. refl) (λ h. h) refl (λ l. refl)
+  inside-polled e (Runs q) = alike refl (λ c. refl) (λ h. h) refl (λ l. refl)
 
   polled-alike : (o : Operation) (a : ℕ) → Alike o (polled p o a)
-  unfolding polled operationSound programSound listSound chipListSound lowest commandSound isStill runningOf suspensionOf dataOf programIsSuspended raisesIn
-  polled-alike Idle a = alike refl (λ c. refl) refl refl (λ l. refl)
-  polled-alike (Programming q) a = alike refl (λ c. refl) refl refl (λ l. refl)
-  polled-alike (ProgramSuspended q) a = alike refl (λ c. refl) refl refl (λ l. refl)
-  polled-alike (Window e) a = alike refl (λ c. refl) refl refl (λ l. refl)
-  polled-alike (Erasing e) a = alike refl (λ c. refl) refl refl (λ l. refl)
+  unfolding polled operationSound programSound listSound chipListSound lowest commandSound isStill runningOf suspensionOf dataOf recoveryLeft programIsSuspended raisesIn
+  polled-alike Idle a = alike refl (λ c. refl) (λ h. h) refl (λ l. refl)
+  polled-alike (Programming q) a = alike refl (λ c. refl) (λ h. h) refl (λ l. refl)
+  polled-alike (ProgramSuspended q) a = alike refl (λ c. refl) (λ h. h) refl (λ l. refl)
+  polled-alike (Window e) a = alike refl (λ c. refl) (λ h. h) refl (λ l. refl)
+  polled-alike (Erasing e) a = alike refl (λ c. refl) (λ h. h) refl (λ l. refl)
+  polled-alike (Recovering r) a = alike refl (λ c. refl) (λ h. h) refl (λ l. refl)
   polled-alike (EraseSuspended s) a = inside-polled (s .erase) (s .inside)
-  polled-alike (ChipErasing e) a = alike refl (λ c. refl) refl refl (λ l. refl)
+  polled-alike (ChipErasing e) a = alike refl (λ c. refl) (λ h. h) refl (λ l. refl)
 
   -- of a suspended erase the register asks nothing more
   same-erase : (e x : Erase) (c : Command) → stillCommand p (OfErase e) c ≡ stillCommand p (OfErase x) c
@@ -61,9 +62,9 @@ module _ (p : Part) (bits : Protection) where
   same-erase e x (Reads r) = refl
 
   inside-rested : (e : Erase) (i : Inside) → Alike (EraseSuspended (suspended e i)) (rested (EraseSuspended (suspended e i)))
-  unfolding rested operationSound listSound insideSound commandSound isStill runningOf runningInside suspensionOf dataOf programIsSuspended raisesIn
-  inside-rested e Nothing = alike refl (λ c. same-erase _ e c) refl refl (λ l. refl)
-  inside-rested e (Runs q) = alike refl (λ c. refl) refl refl (λ l. refl)
+  unfolding rested operationSound listSound insideSound commandSound isStill runningOf runningInside suspensionOf dataOf recoveryLeft programIsSuspended raisesIn
+  inside-rested e Nothing = alike refl (λ c. same-erase _ e c) (λ h. h) refl (λ l. refl)
+  inside-rested e (Runs q) = alike refl (λ c. refl) (λ h. h) refl (λ l. refl)
 
   rested-alike : (o : Operation) → Alike o (rested o)
   unfolding rested
@@ -72,6 +73,7 @@ module _ (p : Part) (bits : Protection) where
   rested-alike (ProgramSuspended q) = itself _
   rested-alike (Window e) = itself _
   rested-alike (Erasing e) = itself _
+  rested-alike (Recovering r) = itself _
   rested-alike (EraseSuspended s) = inside-rested (s .erase) (s .inside)
   rested-alike (ChipErasing e) = itself _
 

@@ -20,7 +20,7 @@ use Rattle.plain.specs.declared.Erase.{Erase}
 use Rattle.plain.specs.declared.Inside.{Inside}
 use Rattle.plain.specs.declared.Inside.the-variants.{Nothing, Runs}
 use Rattle.plain.specs.declared.Operation.{Operation}
-use Rattle.plain.specs.declared.Operation.the-variants.{Idle, Programming, ProgramSuspended, Window, Erasing, EraseSuspended, ChipErasing}
+use Rattle.plain.specs.declared.Operation.the-variants.{Idle, Programming, ProgramSuspended, Window, Erasing, Recovering, EraseSuspended, ChipErasing}
 use Rattle.plain.specs.declared.Suspension.{Suspension}
 use Rattle.plain.specs.declared.Suspension.the-variants.{Unsuspended, OfProgram, OfErase}
 use Rattle.plain.specs.declared.Command.{Command}
@@ -30,20 +30,20 @@ use Rattle.plain.specs.declared.Cycle.the-variants.{Unlock, Unlocked, ProgramDa
 use Rattle.plain.specs.declared.Effect.{Effect}
 use Rattle.plain.specs.declared.Effect.the-variants.{Goes, Starts, Protects, Falls, Stays, Drops}
 use Rattle.plain.specs.declared.Device.{Device}
-use Rattle.plain.specs.Figures.{windowTime}
+use Rattle.plain.specs.Figures.{windowTime, recoveryTime}
 use Rattle.plain.specs.Lent.{Lent}
 use Rattle.plain.specs.Operations.{suspensionOf}
 use Rattle.plain.specs.Programs.{writing, blockWritten, liesIn, raises}
-use Rattle.plain.specs.Record.{erase, suspended}
+use Rattle.plain.specs.Record.{erase, suspended, recovery}
 use Rattle.plain.specs.Refusals.{number}
 use Rattle.plain.specs.Cycles.{isAt, is, firstUnlock, secondUnlock, isDyb}
 use Rattle.plain.specs.Sound.{operationSound, cycleInRange, readingInRange, cycleInSuspension, cycleSound, stillCommand, commandSound, sound}
 use Rattle.plain.specs.Commands.{isSuspended, programIsSuspended, resumes, keepsOut, started, begins, orReset, unless, chipErase, blockErase, unlessLocked, atGround, afterUnlock, afterUnlocked, afterA0, after80, after80Unlock, after80Unlocked, after48, after60, after68, after6060, afterReading, continued, entered, addBlock, inWindow, inErase, inSuspendedErase, written}
 use Rattle.plain.proofs.Tools.{by-test, both-left, both-right, clash}
-use Rattle.plain.proofs.Data.{insideData, dataOf, Short}
-use Rattle.plain.proofs.FigureLaws.{program-some}
+use Rattle.plain.proofs.Data.{insideData, dataOf, recoveryLeft, Short}
+use Rattle.plain.proofs.FigureLaws.{program-some, recovery-some}
 use Rattle.plain.proofs.Facts.{ProgramFacts, sound-bits, sound-operation, sound-command, window, window-lowest, erasing, erase-suspended}
-use Rattle.plain.proofs.FactsHold.{programming-holds, window-holds, resting-holds, inside-holds, chip-holds}
+use Rattle.plain.proofs.FactsHold.{programming-holds, window-holds, recovering-holds, resting-holds, inside-holds, chip-holds}
 use Rattle.plain.proofs.Modest.{raisesInside, raisesIn, Modest}
 use Rattle.plain.proofs.Register.{ground-sound, standing, command-standing}
 use Rattle.plain.proofs.SoundTime.{closed}
@@ -110,10 +110,10 @@ module _ (p : Part) (bits : Protection) (none : strayBits p bits ≡ false) (l :
   -- ---- operations that start
 
   resumes-fine : (s : Suspension) → operationSound p bits (standing s) ≡ true → FineIn s (resumes s)
-  unfolding resumes standing operationSound dataOf suspensionOf programIsSuspended number raisesIn
+  unfolding resumes standing operationSound dataOf recoveryLeft suspensionOf programIsSuspended number raisesIn
   resumes-fine Unsuspended e = falls refl
   resumes-fine (OfProgram q) e = starts e (λ g h. h) refl (λ h. h)
-  resumes-fine (OfErase x) e = starts (both-left _ _ e) (λ g h. lit< tt) refl (λ h. refl)
+  resumes-fine (OfErase x) e = starts (both-left _ _ e) (λ g h. (lit< tt, lit< tt)) refl (λ h. refl)
 
   program-facts : protected bits (blockWritten p (writing a w)) ≡ false → ProgramFacts p bits (started p (writing a w))
   unfolding liesIn
@@ -121,11 +121,11 @@ module _ (p : Part) (bits : Protection) (none : strayBits p bits ≡ false) (l :
 
   begins-fine : (s : Suspension) → operationSound p bits (standing s) ≡ true → protected bits (blockWritten p (writing a w)) ≡ false → keepsOut p s (writing a w) ≡ false
       → raises (writing a w) l ≡ false → FineIn s (Starts (begins s (started p (writing a w))))
-  unfolding keepsOut begins standing dataOf insideData suspensionOf programIsSuspended raisesIn raisesInside
-  begins-fine Unsuspended e free off modest = starts (programming-holds p bits _ (program-facts free)) (λ g h. g) refl (λ h. modest)
+  unfolding keepsOut begins standing dataOf recoveryLeft insideData suspensionOf programIsSuspended raisesIn raisesInside
+  begins-fine Unsuspended e free off modest = starts (programming-holds p bits _ (program-facts free)) (λ g h. (g, lit< tt)) refl (λ h. modest)
   begins-fine (OfProgram q) e free off modest = clash refl off
   begins-fine (OfErase x) e free off modest =
-      starts (inside-holds p bits _ _ (erase-suspended p bits _ e) (record { program = program-facts free; off-list = off })) (λ g h. g) refl (λ h. modest)
+      starts (inside-holds p bits _ _ (erase-suspended p bits _ e) (record { program = program-facts free; off-list = off })) (λ g h. (g, lit< tt)) refl (λ h. modest)
 
   data-fine : (s : Suspension) → operationSound p bits (standing s) ≡ true → Reasons s (Entering ProgramData) → FineIn s (afterA0 p bits s l a w)
   unfolding afterA0 number
@@ -136,14 +136,14 @@ module _ (p : Part) (bits : Protection) (none : strayBits p bits ≡ false) (l :
       (λ off. by-test F (raises (writing a w) l) (λ more. raised (why (record { cycle = refl; unprotected = free; allowed = off; raises = more }))) (λ modest. begins-fine s o free off modest)))
 
   chip-fine : FineIn Unsuspended (chipErase p bits)
-  unfolding standing dataOf suspensionOf programIsSuspended number raisesIn
-  chip-fine = by-test (Fine p bits l w Reason Idle) (allProtected p bits) (λ _. falls refl) (λ h. starts (chip-holds p bits _ (chip-opened p bits h)) (λ g h. lit< tt) refl (λ h. refl))
+  unfolding standing dataOf recoveryLeft suspensionOf programIsSuspended number raisesIn
+  chip-fine = by-test (Fine p bits l w Reason Idle) (allProtected p bits) (λ _. falls refl) (λ h. starts (chip-holds p bits _ (chip-opened p bits h)) (λ g h. (lit< tt, lit< tt)) refl (λ h. refl))
 
   block-fine : FineIn Unsuspended (blockErase p bits (blockOf p a))
-  unfolding standing dataOf suspensionOf programIsSuspended number raisesIn
+  unfolding standing dataOf recoveryLeft suspensionOf programIsSuspended number raisesIn
   block-fine =
       by-test (Fine p bits l w Reason Idle) (protected bits (blockOf p a)) (λ _. falls refl)
-      (λ h. starts (window-holds p bits _ (opened p bits (blockOf p a) block-below h) (λ n. opened-low p (blockOf p a) n block-below)) (λ g h. lit< tt) refl (λ h. refl))
+      (λ h. starts (window-holds p bits _ (opened p bits (blockOf p a) block-below h) (λ n. opened-low p (blockOf p a) n block-below)) (λ g h. (lit< tt, lit< tt)) refl (λ h. refl))
 
   -- ---- protection that changes
 
@@ -222,11 +222,11 @@ module _ (p : Part) (bits : Protection) (none : strayBits p bits ≡ false) (l :
   -- ---- a write in the window, and any write
 
   add-fine : (e : Erase) → operationSound p bits (Window e) ≡ true → Fine p bits l w Reason (Window e) (addBlock p bits e a)
-  unfolding addBlock dataOf suspensionOf programIsSuspended number raisesIn
+  unfolding addBlock dataOf recoveryLeft suspensionOf programIsSuspended number raisesIn
   add-fine e s =
       let F = Fine p bits l w Reason (Window e) in
       by-test F (not (eqb (bankOf p a) (bankOfBlock p (e .hand)))) (λ _. stays refl)
-      (λ h. by-test F (protected bits (blockOf p a)) (λ _. stays refl) (λ free. starts (more free (eqb-true _ _ (not-false _ h))) (λ g h. lit< tt) refl (λ h. refl)))
+      (λ h. by-test F (protected bits (blockOf p a)) (λ _. stays refl) (λ free. starts (more free (eqb-true _ _ (not-false _ h))) (λ g h. (lit< tt, lit< tt)) refl (λ h. refl)))
     where
       more : protected bits (blockOf p a) ≡ false → bankOf p a ≡ bankOfBlock p (e .hand)
           → operationSound p bits (Window (erase (withOf (e .list) (blockOf p a)) (min (e .hand) (blockOf p a)) (windowTime p) (e .dq6) (e .dq2))) ≡ true
@@ -235,16 +235,19 @@ module _ (p : Part) (bits : Protection) (none : strayBits p bits ≡ false) (l :
           (added-low p e (blockOf p a) block-below (window-lowest p bits e s))
 
   window-fine : (e : Erase) → operationSound p bits (Window e) ≡ true → Fine p bits l w Reason (Window e) (inWindow p bits e a w)
-  unfolding inWindow dataOf insideData suspensionOf programIsSuspended raisesIn raisesInside
+  unfolding inWindow dataOf recoveryLeft insideData suspensionOf programIsSuspended raisesIn raisesInside
   window-fine e s =
       let F = Fine p bits l w Reason (Window e) in
       by-test F (is w 0x30) (λ _. add-fine e s)
-      (λ _. by-test F (is w 0xB0) (λ _. starts (resting-holds p bits _ (closed p bits e (window p bits e s))) (λ g h. lit< tt) refl (λ h. refl)) (λ _. drops))
+      (λ _. by-test F (is w 0xB0) (λ _. starts (resting-holds p bits _ (closed p bits e (window p bits e s))) (λ g h. (lit< tt, lit< tt)) refl (λ h. refl)) (λ _. drops))
 
-  erase-fine : (e : Erase) → operationSound p bits (Erasing e) ≡ true → Fine p bits l w Reason (Erasing e) (inErase e w)
-  unfolding dataOf insideData suspensionOf programIsSuspended number raisesIn raisesInside
+  erase-fine : (e : Erase) → operationSound p bits (Erasing e) ≡ true → Fine p bits l w Reason (Erasing e) (inErase p e w)
+  unfolding dataOf recoveryLeft insideData suspensionOf programIsSuspended number raisesIn raisesInside
   erase-fine e s =
-      by-test (Fine p bits l w Reason (Erasing e)) (is w 0xB0) (λ _. starts (resting-holds p bits e (erasing p bits e s)) (λ g h. lit< tt) refl (λ h. refl)) (λ _. stays refl)
+      by-test (Fine p bits l w Reason (Erasing e)) (is w 0xB0) (λ _. starts recovers (λ g h. (lit< tt, recovery-some p)) refl (λ h. refl)) (λ _. stays refl)
+    where
+      recovers : operationSound p bits (Recovering (recovery e (recoveryTime p))) ≡ true
+      recovers = recovering-holds p bits _ (record { erase = erasing p bits e s; some-left = recovery-some p; most-left = omega arith })
 
   inside-fine : (e : Erase) (i : Inside) (c : Command) → operationSound p bits (EraseSuspended (suspended e i)) ≡ true → commandSound p (EraseSuspended (suspended e i)) c ≡ true
       → Reasons (OfErase e) c → Fine p bits l w Reason (EraseSuspended (suspended e i)) (inSuspendedErase i (entered p bits (OfErase e) c l a w))
@@ -260,6 +263,7 @@ module _ (p : Part) (bits : Protection) (none : strayBits p bits ≡ false) (l :
   written-fine (ProgramSuspended q) c s h why = enter-fine (OfProgram q) c s h why
   written-fine (Window e) c s h why = window-fine e s
   written-fine (Erasing e) c s h why = erase-fine e s
+  written-fine (Recovering x) c s h why = stays refl
   written-fine (EraseSuspended x) c s h why = inside-fine (x .erase) (x .inside) c s h why
   written-fine (ChipErasing e) c s h why = stays refl
 

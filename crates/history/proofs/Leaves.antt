@@ -14,12 +14,13 @@ use Rattle.plain.specs.declared.Erase.{Erase}
 use Rattle.plain.specs.declared.Inside.{Inside}
 use Rattle.plain.specs.declared.Inside.the-variants.{Nothing, Runs}
 use Rattle.plain.specs.declared.Operation.{Operation}
-use Rattle.plain.specs.declared.Operation.the-variants.{Idle, Programming, ProgramSuspended, Window, Erasing, EraseSuspended, ChipErasing}
+use Rattle.plain.specs.declared.Operation.the-variants.{Idle, Programming, ProgramSuspended, Window, Erasing, Recovering, EraseSuspended, ChipErasing}
 use Rattle.plain.specs.Choice.{if_then_else_}
 use Rattle.plain.specs.Figures.{programTime, eraseTime, chipTime}
 use Rattle.plain.specs.Lent.{Lent}
 use Rattle.plain.specs.Programs.{writes, datum, raises}
-use Rattle.plain.specs.History.{Fact, programDone, eraseDone, programCut, eraseCut, Doing, nothing, programs, waits, erases, wipes, rests, programsIn, comes, eraseCuts, programCuts, cuts, afterFact, holds}
+use Rattle.plain.specs.History.{Doing, nothing, programs, waits, erases, recovers, wipes, rests, programsIn, comes, eraseCuts, programCuts, cuts}
+use Rattle.plain.specs.Holds.{Fact, programDone, eraseDone, programCut, eraseCut, afterFact, holds}
 use Rattle.plain.specs.Promises.{touches, LastEnded, ended, since}
 use Rattle.plain.proofs.Modest.{raisesInside, raisesIn, Modest}
 use Rattle.plain.proofs.Programs.{modest-leaves}
@@ -97,6 +98,7 @@ module _ (p : Part) (start : Lent) (fs : List Fact) (l : Lent) (h : Holds p star
   op-leaves (ProgramSuspended q) m = k
   op-leaves (Window e) m = k
   op-leaves (Erasing e) m = erase-goes e (eraseTime p)
+  op-leaves (Recovering r) m = k
   op-leaves (EraseSuspended s) m = inside-leaves (s .erase) (s .inside) m
   op-leaves (ChipErasing e) m = erase-goes e (chipTime p)
 
@@ -115,6 +117,7 @@ module _ (p : Part) (start : Lent) where
   cut-leaves (programs d g) debris fs k = word-leaves g d debris fs k
   cut-leaves (waits l b g) debris fs k = k
   cut-leaves (erases l b g) debris fs k = block-leaves g b debris fs k
+  cut-leaves (recovers l b g n) debris fs k = block-leaves g b debris fs k
   cut-leaves (wipes l b g) debris fs k = block-leaves g b debris fs k
   cut-leaves (rests l b g) debris fs k = block-leaves g b debris fs k
   cut-leaves (programsIn d pg l b g) debris fs k = word-leaves pg d _ _ (block-leaves g b debris fs k)

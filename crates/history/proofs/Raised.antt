@@ -14,7 +14,7 @@ use Rattle.plain.specs.declared.Erase.{Erase}
 use Rattle.plain.specs.declared.Inside.{Inside}
 use Rattle.plain.specs.declared.Inside.the-variants.{Nothing, Runs}
 use Rattle.plain.specs.declared.Operation.{Operation}
-use Rattle.plain.specs.declared.Operation.the-variants.{Idle, Programming, ProgramSuspended, Window, Erasing, EraseSuspended, ChipErasing}
+use Rattle.plain.specs.declared.Operation.the-variants.{Idle, Programming, ProgramSuspended, Window, Erasing, Recovering, EraseSuspended, ChipErasing}
 use Rattle.plain.specs.declared.Suspension.{Suspension}
 use Rattle.plain.specs.declared.Suspension.the-variants.{Unsuspended, OfProgram, OfErase}
 use Rattle.plain.specs.declared.Command.{Command}
@@ -85,6 +85,7 @@ module _ (p : Part) (bits : Protection) (l : Lent) (a w : ℕ) where
   at-data (ProgramSuspended q) h = refl
   at-data (Window e) h = clash h refl
   at-data (Erasing e) h = clash h refl
+  at-data (Recovering r) h = clash h refl
   at-data (EraseSuspended s) h = inside-at-data (s .erase) (s .inside) h
   at-data (ChipErasing e) h = clash h refl
 

@@ -22,7 +22,8 @@ use Rattle.plain.specs.Time.{ticks}
 use Rattle.plain.specs.Status.{polls, readingOn, rests, look}
 use Rattle.plain.specs.Cut.{debrisNeeded}
 use Rattle.plain.specs.Machine.{Outcome, outcome, refused, ladder, now, waited, cutTaken, readEvent, writeEvent, waitEvent, cutEvent, step, run, Fit}
-use Rattle.plain.specs.History.{Fact, Told, kind, unheard, cuts, wroteAs, waitedAs, cutAs, tell, told}
+use Rattle.plain.specs.History.{Told, kind, unheard, cuts, wroteAs, waitedAs, cutAs, tell, told}
+use Rattle.plain.specs.Holds.{Fact}
 use Rattle.plain.proofs.Tools.{by-test}
 use Rattle.plain.proofs.Facts.{sound-operation}
 use Rattle.plain.proofs.Ladder.{by-ladder}

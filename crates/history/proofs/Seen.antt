@@ -8,10 +8,11 @@ use Rattle.plain.specs.declared.Erase.{Erase}
 use Rattle.plain.specs.declared.Inside.{Inside}
 use Rattle.plain.specs.declared.Inside.the-variants.{Nothing, Runs}
 use Rattle.plain.specs.declared.Operation.{Operation}
-use Rattle.plain.specs.declared.Operation.the-variants.{Idle, Programming, ProgramSuspended, Window, Erasing, EraseSuspended, ChipErasing}
+use Rattle.plain.specs.declared.Operation.the-variants.{Idle, Programming, ProgramSuspended, Window, Erasing, Recovering, EraseSuspended, ChipErasing}
 use Rattle.plain.specs.declared.Device.{Device}
-use Rattle.plain.specs.Figures.{programTime, windowTime, eraseTime, chipTime}
-use Rattle.plain.specs.History.{Fact, Doing, nothing, programs, waits, erases, wipes, rests, programsIn, Told, telling}
+use Rattle.plain.specs.Figures.{programTime, windowTime, eraseTime, recoveryTime, chipTime}
+use Rattle.plain.specs.History.{Doing, nothing, programs, waits, erases, recovers, wipes, rests, programsIn, Told, telling}
+use Rattle.plain.specs.Holds.{Fact}
 use Rattle.plain.specs.Status.{polled, insidePolled, rested}
 
 unfoldable pub seenInside : Part → Erase → Inside → Doing
@@ -25,6 +26,7 @@ seenOp p (Programming q) = programs (q .writes) (programTime p - q .left)
 seenOp p (ProgramSuspended q) = nothing
 seenOp p (Window e) = waits (e .list) (e .hand) (windowTime p - e .left)
 seenOp p (Erasing e) = erases (e .list) (e .hand) (eraseTime p - e .left)
+seenOp p (Recovering r) = recovers (r .erase .list) (r .erase .hand) (eraseTime p - r .erase .left) (recoveryTime p - r .left)
 seenOp p (EraseSuspended s) = seenInside p (s .erase) (s .inside)
 seenOp p (ChipErasing e) = wipes (e .list) (e .hand) (chipTime p - e .left)
 
@@ -50,6 +52,7 @@ polled-seen p (Programming q) a = refl
 polled-seen p (ProgramSuspended q) a = refl
 polled-seen p (Window e) a = refl
 polled-seen p (Erasing e) a = refl
+polled-seen p (Recovering r) a = refl
 polled-seen p (EraseSuspended s) a = polled-inside p (s .erase) (s .inside)
 polled-seen p (ChipErasing e) a = refl
 
@@ -65,5 +68,6 @@ rested-seen p (Programming q) = refl
 rested-seen p (ProgramSuspended q) = refl
 rested-seen p (Window e) = refl
 rested-seen p (Erasing e) = refl
+rested-seen p (Recovering r) = refl
 rested-seen p (EraseSuspended s) = rested-inside p _ (s .erase) (s .inside) refl refl refl
 rested-seen p (ChipErasing e) = refl

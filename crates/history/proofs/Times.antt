@@ -21,20 +21,21 @@ use Rattle.plain.specs.declared.Inside.{Inside}
 use Rattle.plain.specs.declared.Inside.the-variants.{Nothing, Runs}
 use Rattle.plain.specs.declared.SuspendedErase.{SuspendedErase}
 use Rattle.plain.specs.declared.Operation.{Operation}
-use Rattle.plain.specs.declared.Operation.the-variants.{Idle, Programming, ProgramSuspended, Window, Erasing, EraseSuspended, ChipErasing}
+use Rattle.plain.specs.declared.Operation.the-variants.{Idle, Programming, ProgramSuspended, Window, Erasing, Recovering, EraseSuspended, ChipErasing}
 use Rattle.plain.specs.declared.Running.{Running}
-use Rattle.plain.specs.declared.Running.the-variants.{Still, Programs, Waits, Erases, ErasesChip}
+use Rattle.plain.specs.declared.Running.the-variants.{Still, Programs, Waits, Erases, Recovers, ErasesChip}
 use Rattle.plain.specs.declared.Command.{Command}
 use Rattle.plain.specs.Choice.{if_then_else_}
-use Rattle.plain.specs.Figures.{programTime, windowTime, eraseTime, chipTime}
+use Rattle.plain.specs.Figures.{programTime, windowTime, eraseTime, recoveryTime, chipTime}
 use Rattle.plain.specs.Lent.{Lent}
 use Rattle.plain.specs.Operations.{runningInside, runningOf}
 use Rattle.plain.specs.Programs.{finished}
 use Rattle.plain.specs.Sound.{operationSound}
 use Rattle.plain.specs.Time.{Moment, last, onward, current, operationTick, insideTick, lentTick, eraseFinished, tick, ticks}
-use Rattle.plain.specs.History.{Fact, Doing, nothing, programs, waits, erases, wipes, rests, programsIn, programDone, eraseDone, Told, telling, draws, goes, comes, microsecond, time}
+use Rattle.plain.specs.History.{Doing, nothing, programs, waits, erases, recovers, wipes, rests, programsIn, Told, telling, draws, goes, comes, microsecond, time}
+use Rattle.plain.specs.Holds.{Fact, programDone, eraseDone}
 use Rattle.plain.proofs.Tools.{by-test, by-cases}
-use Rattle.plain.proofs.Facts.{ProgramFacts, EraseFacts, programming, window, erasing, chip-erasing, inside-runs}
+use Rattle.plain.proofs.Facts.{ProgramFacts, EraseFacts, programming, window, erasing, recovering, chip-erasing, inside-runs}
 use Rattle.plain.proofs.Modest.{Modest, tick-modest}
 use Rattle.plain.proofs.Programs.{length-finished}
 use Rattle.plain.proofs.SoundTime.{tick-fit}
@@ -83,7 +84,7 @@ module _ (p : Part) (bits : Protection) where
       (λ t. rw t)
 
   pub op-goes : (o : Operation) → Fit o → goes p (seenOp p o) ≡ seenOp p (operationTick p o)
-  unfolding goes seenOp operationTick
+  unfolding goes seenOp seenInside operationTick
   op-goes Idle f = refl
   op-goes (Programming q) f =
       program-goes q (programs (q .writes)) nothing (programming p bits q f) ∙ by-cases (last (q .left)) (λ t. rw t) (λ t. rw t)
@@ -98,6 +99,11 @@ module _ (p : Part) (bits : Protection) where
       rw (full-time (e .left) (eraseTime p) (f .some-left) (f .most-left))
       (by-cases (last (e .left)) (λ t. rw t (block-goes e erases Erasing (eraseTime p) (λ x. refl)))
       (λ t. rw t (ap (erases (e .list) (e .hand)) (one-more (e .left) (eraseTime p) t (f .most-left)))))
+  op-goes (Recovering r) s =
+      let f = recovering p bits r s in
+      let stopped = recovers (r .erase .list) (r .erase .hand) (eraseTime p - r .erase .left) in
+      rw (full-time (r .left) (recoveryTime p) (f .some-left) (f .most-left))
+      (by-cases (last (r .left)) (λ t. rw t) (λ t. rw t (ap stopped (one-more (r .left) (recoveryTime p) t (f .most-left)))))
   op-goes (EraseSuspended x) s = inside-goes x (x .inside) refl s
   op-goes (ChipErasing e) s =
       let f = chip-erasing p bits e s in
@@ -117,6 +123,7 @@ module _ (p : Part) (bits : Protection) where
   op-draws (ProgramSuspended q) = refl
   op-draws (Window e) = refl
   op-draws (Erasing e) = refl
+  op-draws (Recovering r) = refl
   op-draws (EraseSuspended x) = inside-draws (x .erase) (x .inside)
   op-draws (ChipErasing e) = refl
 
@@ -147,6 +154,7 @@ module _ (p : Part) (bits : Protection) where
     op-holds (ProgramSuspended q) f = h
     op-holds (Window e) f = h
     op-holds (Erasing e) f = erase-holds e (eraseTime p) (erasing p bits e f .erase)
+    op-holds (Recovering r) f = h
     op-holds (EraseSuspended x) f = inside-holds x (x .inside) refl f
     op-holds (ChipErasing e) f = erase-holds e (chipTime p) (chip-erasing p bits e f)
 
@@ -163,6 +171,7 @@ module _ (p : Part) (bits : Protection) where
       by-test (λ (x : Lent). length (x .cells) ≡ length (l .cells)) (last (q .left)) (λ t. length-finished (q .writes) l) (λ t. refl)
   tick-long (Waits e) l long = refl
   tick-long (Erases e) l long = erase-long e l long
+  tick-long (Recovers r) l long = refl
   tick-long (ErasesChip e) l long = erase-long e l long
 
 -- ---- any number of microseconds

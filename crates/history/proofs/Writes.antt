@@ -16,7 +16,7 @@ use Rattle.plain.specs.declared.Erase.{Erase}
 use Rattle.plain.specs.declared.Inside.{Inside}
 use Rattle.plain.specs.declared.Inside.the-variants.{Nothing, Runs}
 use Rattle.plain.specs.declared.Operation.{Operation}
-use Rattle.plain.specs.declared.Operation.the-variants.{Idle, Programming, ProgramSuspended, Window, Erasing, EraseSuspended, ChipErasing}
+use Rattle.plain.specs.declared.Operation.the-variants.{Idle, Programming, ProgramSuspended, Window, Erasing, Recovering, EraseSuspended, ChipErasing}
 use Rattle.plain.specs.declared.Suspension.{Suspension}
 use Rattle.plain.specs.declared.Suspension.the-variants.{Unsuspended, OfProgram, OfErase}
 use Rattle.plain.specs.declared.Command.{Command}
@@ -28,13 +28,14 @@ use Rattle.plain.specs.declared.Effect.the-variants.{Goes, Starts, Protects, Fa
 use Rattle.plain.specs.declared.Device.{Device}
 use Rattle.plain.specs.Choice.{if_then_else_}
 use Rattle.plain.specs.Cycles.{isAt, is, firstUnlock, secondUnlock, isDyb}
-use Rattle.plain.specs.Figures.{programTime, windowTime, eraseTime, chipTime}
+use Rattle.plain.specs.Figures.{programTime, windowTime, eraseTime, recoveryTime, chipTime}
 use Rattle.plain.specs.Lent.{Lent}
 use Rattle.plain.specs.Operations.{suspensionOf}
 use Rattle.plain.specs.Programs.{writing, blockWritten, raises}
 use Rattle.plain.specs.Record.{device, suspended}
 use Rattle.plain.specs.Commands.{programIsSuspended, isSuspended, resumes, keepsOut, started, begins, atGround, afterUnlock, afterUnlocked, afterA0, after80, after80Unlock, after80Unlocked, after48, after60, after68, after6060, afterReading, continued, entered, addBlock, inWindow, inSuspendedErase, written, effected}
-use Rattle.plain.specs.History.{Fact, Told, kind, dropped, unheard, enters, protects, beginsProgram, goesOn, hearsCycle, hears, wrote, gaveUp, turnedDown, wroteAs}
+use Rattle.plain.specs.History.{Told, kind, dropped, unheard, enters, protects, beginsProgram, goesOn, hearsCycle, hears, wrote, gaveUp, turnedDown, wroteAs}
+use Rattle.plain.specs.Holds.{Fact}
 use Rattle.plain.specs.History as told
 use Rattle.plain.proofs.Tools.{by-test, both-right, clash}
 use Rattle.plain.proofs.Register.{standing}
@@ -238,7 +239,8 @@ module _ (p : Part) (fs : List Fact) (l : Lent) (a w : ℕ) (m : Meter) (bits : 
   written-told c (Programming q) n = stays Busy refl
   written-told c (ProgramSuspended q) n = clash refl n
   written-told c (Window e) n = in-window c e
-  written-told c (Erasing x) n = by-test (For c (Erasing x)) (is w 0xB0) (λ e. runs-on _ refl) (λ e. stays Busy refl)
+  written-told c (Erasing x) n = by-test (For c (Erasing x)) (is w 0xB0) (λ e. runs-on _ (rw (none-gone (recoveryTime p)))) (λ e. stays Busy refl)
+  written-told c (Recovering x) n = stays Busy refl
   written-told c (EraseSuspended s) n = in-suspended c (s .erase) (s .inside)
   written-told c (ChipErasing e) n = stays Busy refl
 

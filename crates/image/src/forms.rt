@@ -4,7 +4,7 @@ ghost use lib.ListN.{length};
 ghost use Rattle.layout.specs.Places.{recordWords};
 ghost use Rattle.layout.specs.Commands.{beside, commandFits};
 ghost use Rattle.layout.specs.Operations.{programs};
-ghost use Rattle.layout.specs.Image.{eraseFits, programFits, operationFits};
+ghost use Rattle.layout.specs.Image.{eraseFits, programFits, operationFits, recoveryFits};
 use crate::sections;
 
 // Is there a command of that number, and does it have a place if one is told?
@@ -34,6 +34,17 @@ pub fn operation_fits(words: &[u64]) -> bool
         return false;
     }
     program_fits(words)
+}
+
+// Only a block erase past its window recovers.
+pub fn recovery_fits(words: &[u64]) -> bool
+    requires { ⌜ length (now words) ≡ recordWords ⌝ }
+    ensures { λ r. ⌜ r ≡ recoveryFits (now (words .entry)) ⌝ }
+{
+    if words[layout::OPERATION_AT] == 4 {
+        return true;
+    }
+    words[layout::RECOVERY_AT] == 0
 }
 
 fn erase_fits(words: &[u64]) -> bool

@@ -24,7 +24,10 @@ pub fn is_well_formed(words: &[u64]) -> bool
     if !forms::command_fits(words[layout::COMMAND_AT], words[layout::PLACE_AT]) {
         return false;
     }
-    forms::operation_fits(words)
+    if !forms::operation_fits(words) {
+        return false;
+    }
+    forms::recovery_fits(words)
 }
 
 // Do they stand for an idle device? It is asked first at each event, as the most common case.
@@ -38,7 +41,10 @@ pub fn is_idle(words: &[u64]) -> bool
     if !sections::are_unused(words, layout::COMMAND_AT, layout::LIST_AT) {
         return false;
     }
-    sections::are_unused(words, layout::LIST_AT, layout::DYB_AT)
+    if !sections::are_unused(words, layout::LIST_AT, layout::DYB_AT) {
+        return false;
+    }
+    words[layout::RECOVERY_AT] == 0
 }
 
 // As many words as a record has, with the layout's number, and one bit for the lock.
@@ -61,7 +67,12 @@ pub fn device_of(words: &[u64]) -> Device
     let command = commands::command_of(words[layout::COMMAND_AT], words[layout::PLACE_AT]);
     let erase = parts::erase_of(words);
     let program = parts::program_of(words);
-    let operation = operations::operation_of(words[layout::OPERATION_AT], erase, program);
+    let operation = operations::operation_of(
+        words[layout::OPERATION_AT],
+        erase,
+        program,
+        words[layout::RECOVERY_AT],
+    );
     let meter = meter_of(words);
     let bits = bits_of(words);
     Device {

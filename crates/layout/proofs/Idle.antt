@@ -1,20 +1,21 @@
 -- Words of an idle device are well-formed, and say of it no more than its meter and its protection bits.
 use Prim.Native.Nat.{ℕ}
-use mathlib.Core.Path.{_≡_}
+use mathlib.Core.Path.{_≡_, refl}
 use mathlib.Core.Bool.{true}
 use mathlib.Core.List.{List}
 use native.Mathlib.Omega.{arith}
 use lib.ListN.{length}
+use borrow.Author.Tests.{eqb-true}
 use Rattle.meter.specs.declared.Meter.{Meter}
 use Rattle.protection.specs.declared.Protection.{Protection}
 use Rattle.plain.specs.declared.Operation.the-variants.{Idle}
 use Rattle.plain.specs.declared.Command.the-variants.{Ground}
 use Rattle.plain.specs.Record.{device}
 use Rattle.plain.proofs.Tools.{both, both-left, both-right}
-use Rattle.layout.specs.Places.{recordWords, commandAt, placeAt, operationAt, listAt, addressAt, dybAt}
+use Rattle.layout.specs.Places.{recordWords, commandAt, placeAt, operationAt, listAt, addressAt, dybAt, recoveryAt}
 use Rattle.layout.specs.Commands.{commandWords, commandFits, commandOf}
-use Rattle.layout.specs.Operations.{operationParts, operationOf}
-use Rattle.layout.specs.Image.{imageOf, word, wordsFrom, zeros, unused, marked, eraseFits, programFits, operationFits, wellFormed, idleWords, meterOf, bitsOf, deviceOf}
+use Rattle.layout.specs.Operations.{operationParts, operationNumbered, operationOf}
+use Rattle.layout.specs.Image.{imageOf, word, wordsFrom, zeros, unused, marked, eraseFits, programFits, operationFits, recoveryFits, wellFormed, idleWords, meterOf, bitsOf, deviceOf}
 use Rattle.layout.proofs.Words.{unused-at, unused-part, flag-fits}
 use Rattle.layout.proofs.Canonical.{is-marked}
 
@@ -25,7 +26,11 @@ module _ (i : List ℕ) (h : idleWords i ≡ true) where
 
   none : unused i commandAt dybAt ≡ true
   unfolding idleWords
-  none = both-right (marked i) _ h
+  none = both-left (unused i commandAt dybAt) _ (both-right (marked i) _ h)
+
+  no-recovery : word i recoveryAt ≡ 0
+  unfolding idleWords
+  no-recovery = eqb-true _ 0 (both-right (unused i commandAt dybAt) _ (both-right (marked i) _ h))
 
   pub idle-whole : length i ≡ recordWords
   idle-whole = is-marked i mark .long
@@ -37,15 +42,15 @@ module _ (i : List ℕ) (h : idleWords i ≡ true) where
   no-operation = unused-at i commandAt dybAt operationAt none (omega arith) (omega arith)
 
   pub idle-well : wellFormed i ≡ true
-  unfolding wellFormed commandFits operationFits eraseFits programFits
+  unfolding wellFormed commandFits operationFits recoveryFits eraseFits programFits
   idle-well =
-      rw (mark, no-command, unused-at i commandAt dybAt placeAt none (omega arith) (omega arith), no-operation)
-      (both _ _ (unused-part i commandAt dybAt listAt addressAt none (omega arith) (omega arith) (omega arith))
-      (unused-part i commandAt dybAt addressAt dybAt none (omega arith) (omega arith) (omega arith)))
+      rw (mark, no-command, unused-at i commandAt dybAt placeAt none (omega arith) (omega arith), no-operation, no-recovery)
+      (both _ _ (both _ _ (unused-part i commandAt dybAt listAt addressAt none (omega arith) (omega arith) (omega arith))
+      (unused-part i commandAt dybAt addressAt dybAt none (omega arith) (omega arith) (omega arith))) refl)
 
   pub idle-device : deviceOf i ≡ device (meterOf i) Ground Idle (bitsOf i)
-  unfolding deviceOf commandOf operationOf
-  idle-device = rw (no-command, no-operation)
+  unfolding deviceOf commandOf operationNumbered operationOf
+  idle-device = rw (no-command, no-operation, no-recovery)
 
 -- and the words of every idle device are such
 pub idle-image : (m : Meter) (b : Protection) → idleWords (imageOf (device m Ground Idle b)) ≡ true

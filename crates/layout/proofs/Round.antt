@@ -15,8 +15,8 @@ use Rattle.plain.specs.Choice.{if_then_else_}
 use Rattle.plain.specs.Programs.{writing}
 use Rattle.plain.specs.Record.{device, program, erase}
 use Rattle.plain.proofs.Tools.{both}
-use Rattle.layout.specs.Operations.{noErase, noProgram, parts, operationParts, erases, programs, operationOf}
-use Rattle.layout.specs.Image.{flag, toggles, eraseSection, programSection, imageOf, wordsFrom, zeros, marked, eraseFits, programFits, operationFits, wellFormed, deviceOf}
+use Rattle.layout.specs.Operations.{noErase, noProgram, partsWith, operationParts, erases, programs, operationOf}
+use Rattle.layout.specs.Image.{flag, toggles, eraseSection, programSection, imageOf, wordsFrom, zeros, marked, eraseFits, programFits, operationFits, recoveryFits, wellFormed, deviceOf}
 use Rattle.layout.specs.Promises.{ReadsBack, ImagesStand}
 use Rattle.layout.proofs.Words.{flag-is, flag-fits, toggles-low, toggles-high, toggles-fit}
 use Rattle.layout.proofs.Commands.{command-told}
@@ -43,7 +43,7 @@ unfolding deviceOf imageOf
 round r h =
     let o = operationParts (r .operation) in
     device-same (r .meter) (command-told (r .command) .back)
-    (ap₂ (λ (e : Erase) (q : Program). operationOf (parts (o .number) e q)) (erase-round (o .erase)) (program-round (o .program) h) ∙ told (r .operation) .back)
+    (ap₂ (λ (e : Erase) (q : Program). operationOf (partsWith (o .number) e q (o .recovery))) (erase-round (o .erase)) (program-round (o .program) (h .word)) ∙ told (r .operation) .back (h .recovery))
     (bits-round (r .bits))
 
 -- ---- well-formed
@@ -61,9 +61,9 @@ program-fits true q w h = both _ _ (lt-ltb _ _ w) (flag-fits (q .dq6))
 program-fits false q w h = rw h
 
 pub well-formed : ImagesStand
-unfolding wellFormed marked operationFits eraseFits programFits imageOf wordsFrom zeros
+unfolding wellFormed marked operationFits recoveryFits eraseFits programFits imageOf wordsFrom zeros
 well-formed r w =
     let o = operationParts (r .operation) in
     let t = told (r .operation) in
-    both _ _ (flag-fits (r .bits .lock)) (both _ _ (command-told (r .command) .fits) (both _ _ (t .number)
-    (both _ _ (erase-fits (erases (o .number)) (o .erase) (t .erase)) (program-fits (programs (o .number)) (o .program) w (t .program)))))
+    both _ _ (flag-fits (r .bits .lock)) (both _ _ (command-told (r .command) .fits) (both _ _ (both _ _ (t .number)
+    (both _ _ (erase-fits (erases (o .number)) (o .erase) (t .erase)) (program-fits (programs (o .number)) (o .program) (w .word) (t .program)))) (t .recovery)))

@@ -14,7 +14,7 @@ use Rattle.plain.specs.Record.{device, program, erase}
 use Rattle.layout.specs.declared.OperationParts.{OperationParts}
 use Rattle.layout.specs.Places.{recordWords}
 use Rattle.layout.specs.Commands.{commandWords}
-use Rattle.layout.specs.Operations.{parts, operationParts}
+use Rattle.layout.specs.Operations.{partsWith, operationParts}
 use Rattle.layout.specs.Image.{sections, imageOf, wordsFrom, wellFormed, deviceOf}
 use Rattle.layout.specs.Stored.{withMeter, withCommand, withBlocks, withErase, withProgram, withOperation, withToggles, withBits, withRecord}
 use Rattle.layout.proofs.Words.{section-whole}
@@ -44,8 +44,8 @@ module _ (i : List ℕ) where
 -- an operation's parts with the toggles of another's
 abbrev pub retoggled : OperationParts → OperationParts → OperationParts
 retoggled x y =
-    parts (x .number) (erase (x .erase .list) (x .erase .hand) (x .erase .left) (y .erase .dq6) (y .erase .dq2))
-    (program (x .program .writes) (x .program .left) (y .program .dq6))
+    partsWith (x .number) (erase (x .erase .list) (x .erase .hand) (x .erase .left) (y .erase .dq6) (y .erase .dq2))
+    (program (x .program .writes) (x .program .left) (y .program .dq6)) (x .recovery)
 
 module _ (i : List ℕ) (well : wellFormed i ≡ true) where
   over : (store : List ℕ → List ℕ) (r : Device) → store (imageOf (deviceOf i)) ≡ imageOf r → store i ≡ imageOf r

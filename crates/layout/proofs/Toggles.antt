@@ -8,7 +8,7 @@ use Rattle.plain.specs.declared.Erase.{Erase}
 use Rattle.plain.specs.declared.Inside.{Inside}
 use Rattle.plain.specs.declared.Inside.the-variants.{Nothing, Runs}
 use Rattle.plain.specs.declared.Operation.{Operation}
-use Rattle.plain.specs.declared.Operation.the-variants.{Idle, Programming, ProgramSuspended, Window, Erasing, EraseSuspended, ChipErasing}
+use Rattle.plain.specs.declared.Operation.the-variants.{Idle, Programming, ProgramSuspended, Window, Erasing, Recovering, EraseSuspended, ChipErasing}
 use Rattle.plain.specs.declared.Command.{Command}
 use Rattle.plain.specs.declared.Seen.{Seen}
 use Rattle.plain.specs.Lent.{Lent}
@@ -34,6 +34,7 @@ same (Programming q) = refl
 same (ProgramSuspended q) = refl
 same (Window e) = refl
 same (Erasing e) = refl
+same (Recovering r) = refl
 same (EraseSuspended s) = inside-same (s .erase) (s .inside)
 same (ChipErasing e) = refl
 
@@ -49,6 +50,7 @@ poll-flips p (Programming q) a = refl
 poll-flips p (ProgramSuspended q) a = refl
 poll-flips p (Window e) a = refl
 poll-flips p (Erasing e) a = refl
+poll-flips p (Recovering r) a = refl
 poll-flips p (EraseSuspended s) a = inside-flips (s .erase) (s .inside)
 poll-flips p (ChipErasing e) a = refl
 
@@ -65,6 +67,7 @@ rest-flips (Programming q) = refl
 rest-flips (ProgramSuspended q) = refl
 rest-flips (Window e) = refl
 rest-flips (Erasing e) = refl
+rest-flips (Recovering r) = refl
 rest-flips (EraseSuspended s) = outside-flips (s .erase) _ (s .inside) refl refl refl
 rest-flips (ChipErasing e) = refl
 

@@ -1,7 +1,7 @@
 -- The record as words of 64 bits that a C program holds: what a record's words are, which words stand for a record, and for
 -- which (include/k5l2931cam.h tells them word by word).
 use Prim.Native.Nat.{ℕ, zero, suc, _+_, _*_, _-_, _/_, _%_}
-use mathlib.Core.Bool.{Bool, true, _&&_}
+use mathlib.Core.Bool.{Bool, true, _&&_, _||_}
 use mathlib.Core.List.{List, [], _∷_, _++_}
 use lib.Dec.{eqb, ltb}
 use lib.ListN.{length, getD}
@@ -16,9 +16,9 @@ use Rattle.plain.specs.Programs.{writing}
 use Rattle.plain.specs.Record.{device, program, erase}
 use Rattle.layout.specs.declared.CommandWords.{CommandWords}
 use Rattle.layout.specs.declared.OperationParts.{OperationParts}
-use Rattle.layout.specs.Places.{layoutNumber, recordWords, layoutAt, clockAt, chargeAt, commandAt, placeAt, operationAt, listAt, handAt, eraseLeftAt, togglesAt, addressAt, dataAt, programLeftAt, toggleAt, dybAt, ppbAt, lockAt}
+use Rattle.layout.specs.Places.{layoutNumber, recordWords, layoutAt, clockAt, chargeAt, commandAt, placeAt, operationAt, listAt, handAt, eraseLeftAt, togglesAt, addressAt, dataAt, programLeftAt, toggleAt, dybAt, ppbAt, lockAt, recoveryAt}
 use Rattle.layout.specs.Commands.{beside, commandWords, commandFits, commandOf}
-use Rattle.layout.specs.Operations.{parts, operationParts, erases, programs, operationOf}
+use Rattle.layout.specs.Operations.{partsWith, operationParts, erases, programs, operationOf}
 
 -- ---- what a record's words are
 
@@ -53,7 +53,7 @@ bitsSection b = blocksSection (b .dyb) ++ (blocksSection (b .ppb) ++ (flag (b .l
 
 -- one after the other, behind the layout's number
 abbrev pub sections : Meter → CommandWords → OperationParts → Protection → List ℕ
-sections m c o b = layoutNumber ∷ (meterSection m ++ (commandSection c ++ (operationSection o ++ bitsSection b)))
+sections m c o b = layoutNumber ∷ (meterSection m ++ (commandSection c ++ (operationSection o ++ (bitsSection b ++ (o .recovery ∷ [])))))
 
 unfoldable pub imageOf : Device → List ℕ
 imageOf r = sections (r .meter) (commandWords (r .command)) (operationParts (r .operation)) (r .bits)
@@ -96,16 +96,20 @@ abbrev pub programOf : List ℕ → Program
 programOf i = program (writing (word i addressAt) (word i dataAt % 65536)) (word i programLeftAt) (eqb (word i toggleAt) 1)
 
 abbrev pub partsOf : List ℕ → OperationParts
-partsOf i = parts (word i operationAt) (eraseOf i) (programOf i)
+partsOf i = partsWith (word i operationAt) (eraseOf i) (programOf i) (word i recoveryAt)
 
 abbrev pub bitsOf : List ℕ → Protection
 bitsOf i = record { dyb = blocksAt i dybAt; ppb = blocksAt i ppbAt; lock = eqb (word i lockAt) 1 }
 
 -- ---- which words stand for a record
 
--- so many words, with the layout's number, and one bit for the lock
+-- as many words as the layout has, with its number
+abbrev pub ofLayout : (number words : ℕ) → List ℕ → Bool
+ofLayout n count i = eqb (length i) count && eqb (word i layoutAt) n
+
+-- and one bit for the lock
 unfoldable pub marked : List ℕ → Bool
-marked i = eqb (length i) recordWords && (eqb (word i layoutAt) layoutNumber && ltb (word i lockAt) 2)
+marked i = ofLayout layoutNumber recordWords i && ltb (word i lockAt) 2
 
 unfoldable pub eraseFits : List ℕ → Bool
 eraseFits i = if erases (word i operationAt) then ltb (word i togglesAt) 4 else unused i listAt addressAt
@@ -118,12 +122,16 @@ programFits i =
 unfoldable pub operationFits : List ℕ → Bool
 operationFits i = ltb (word i operationAt) 8 && (eraseFits i && programFits i)
 
+-- only a block erase past its window recovers
+unfoldable pub recoveryFits : List ℕ → Bool
+recoveryFits i = eqb (word i operationAt) 4 || eqb (word i recoveryAt) 0
+
 unfoldable pub wellFormed : List ℕ → Bool
-wellFormed i = marked i && (commandFits (commandWordsOf i) && operationFits i)
+wellFormed i = marked i && (commandFits (commandWordsOf i) && (operationFits i && recoveryFits i))
 
 -- do they stand for an idle device: at ground, with nothing that runs or is suspended?
 unfoldable pub idleWords : List ℕ → Bool
-idleWords i = marked i && unused i commandAt dybAt
+idleWords i = marked i && (unused i commandAt dybAt && eqb (word i recoveryAt) 0)
 
 -- ---- the record that well-formed words stand for
 

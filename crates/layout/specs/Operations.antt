@@ -1,4 +1,4 @@
--- What runs or is suspended as a number, an erase and a program. "A word that is not in use is 0."
+-- What runs or is suspended as a number, an erase, a program and the time left of a recovery. "A word that is not in use is 0."
 use Prim.Native.Nat.{ℕ}
 use mathlib.Core.Bool.{Bool, false, _||_}
 use lib.Dec.{eqb, leb}
@@ -7,10 +7,10 @@ use Rattle.plain.specs.declared.Erase.{Erase}
 use Rattle.plain.specs.declared.Inside.{Inside}
 use Rattle.plain.specs.declared.Inside.the-variants.{Nothing, Runs}
 use Rattle.plain.specs.declared.Operation.{Operation}
-use Rattle.plain.specs.declared.Operation.the-variants.{Idle, Programming, ProgramSuspended, Window, Erasing, EraseSuspended, ChipErasing}
+use Rattle.plain.specs.declared.Operation.the-variants.{Idle, Programming, ProgramSuspended, Window, Erasing, Recovering, EraseSuspended, ChipErasing}
 use Rattle.plain.specs.Choice.{if_then_else_}
 use Rattle.plain.specs.Programs.{writing}
-use Rattle.plain.specs.Record.{program, erase, suspended}
+use Rattle.plain.specs.Record.{program, erase, suspended, recovery}
 use Rattle.layout.specs.declared.OperationParts.{OperationParts}
 
 abbrev pub noErase : Erase
@@ -19,8 +19,12 @@ noErase = erase (record { w0 = 0; w1 = 0; w2 = 0; w3 = 0; w4 = 0 }) 0 0 false fa
 abbrev pub noProgram : Program
 noProgram = program (writing 0 0) 0 false
 
+abbrev pub partsWith : (number : ℕ) → Erase → Program → (recovery : ℕ) → OperationParts
+partsWith n e q t = record { number = n; erase = e; program = q; recovery = t }
+
+-- those of layout 1
 abbrev pub parts : (number : ℕ) → Erase → Program → OperationParts
-parts n e q = record { number = n; erase = e; program = q }
+parts n e q = partsWith n e q 0
 
 unfoldable pub suspendedParts : Erase → Inside → OperationParts
 suspendedParts e Nothing = parts 5 e noProgram
@@ -32,6 +36,7 @@ operationParts (Programming q) = parts 1 noErase q
 operationParts (ProgramSuspended q) = parts 2 noErase q
 operationParts (Window e) = parts 3 e noProgram
 operationParts (Erasing e) = parts 4 e noProgram
+operationParts (Recovering r) = partsWith 4 (r .erase) noProgram (r .left)
 operationParts (EraseSuspended s) = suspendedParts (s .erase) (s .inside)
 operationParts (ChipErasing e) = parts 7 e noProgram
 
@@ -42,14 +47,20 @@ erases n = leb 3 n
 abbrev pub programs : (number : ℕ) → Bool
 programs n = eqb n 1 || (eqb n 2 || eqb n 6)
 
--- the operation that a number below 8 stands for
+-- the operation that a number below 8 stands for, in each layout
+unfoldable pub operationNumbered : (number : ℕ) → Erase → Program → Operation
+operationNumbered n e q =
+    if eqb n 1 then Programming q
+    else if eqb n 2 then ProgramSuspended q
+    else if eqb n 3 then Window e
+    else if eqb n 4 then Erasing e
+    else if eqb n 5 then EraseSuspended (suspended e Nothing)
+    else if eqb n 6 then EraseSuspended (suspended e (Runs q))
+    else if eqb n 7 then ChipErasing e
+    else Idle
+
+-- and where time is left of a recovery, that
 unfoldable pub operationOf : OperationParts → Operation
 operationOf o =
-    if eqb (o .number) 1 then Programming (o .program)
-    else if eqb (o .number) 2 then ProgramSuspended (o .program)
-    else if eqb (o .number) 3 then Window (o .erase)
-    else if eqb (o .number) 4 then Erasing (o .erase)
-    else if eqb (o .number) 5 then EraseSuspended (suspended (o .erase) Nothing)
-    else if eqb (o .number) 6 then EraseSuspended (suspended (o .erase) (Runs (o .program)))
-    else if eqb (o .number) 7 then ChipErasing (o .erase)
-    else Idle
+    if eqb (o .recovery) 0 then operationNumbered (o .number) (o .erase) (o .program)
+    else Recovering (recovery (o .erase) (o .recovery))

@@ -3,10 +3,17 @@
 use Prim.Native.Nat.{ℕ}
 
 abbrev pub layoutNumber : ℕ
-layoutNumber = 1
+layoutNumber = 2
 
 abbrev pub recordWords : ℕ
-recordWords = 29
+recordWords = 30
+
+-- layout 1 had all of its words but the last
+abbrev pub firstLayout : ℕ
+firstLayout = 1
+
+abbrev pub firstWords : ℕ
+firstWords = 29
 
 abbrev pub layoutAt : ℕ
 layoutAt = 0
@@ -61,3 +68,7 @@ ppbAt = 23
 
 abbrev pub lockAt : ℕ
 lockAt = 28
+
+-- from layout 2 on: the time left of a recovery
+abbrev pub recoveryAt : ℕ
+recoveryAt = 29

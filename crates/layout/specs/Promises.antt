@@ -3,13 +3,16 @@ use Prim.Native.Nat.{ℕ, _<_}
 use mathlib.Core.Path.{_≡_}
 use mathlib.Core.Bool.{true}
 use mathlib.Core.List.{List}
+use Rattle.plain.specs.declared.Recovery.{Recovery}
+use Rattle.plain.specs.declared.Operation.the-variants.{Recovering}
 use Rattle.plain.specs.declared.Device.{Device}
 use Rattle.layout.specs.Operations.{operationParts}
 use Rattle.layout.specs.Image.{imageOf, wellFormed, deviceOf}
 
--- the data of its program is a word of 16 bits, as it is in every record that the code makes
-abbrev pub Fits : Device → Type 0
-Fits r = operationParts (r .operation) .program .writes .word < 65536
+-- as in every record that the code makes: the data of its program is a word of 16 bits, and a recovery has time left
+pub record Fits (r : Device) : Type 0 where
+  pub word : operationParts (r .operation) .program .writes .word < 65536
+  pub recovery : (x : Recovery) → r .operation ≡ Recovering x → 0 < x .left
 
 -- a record is read back as it was written
 abbrev pub ReadsBack : Type 0

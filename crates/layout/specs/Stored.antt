@@ -12,7 +12,7 @@ use Rattle.plain.specs.declared.Command.{Command}
 use Rattle.plain.specs.declared.Device.{Device}
 use Rattle.layout.specs.declared.CommandWords.{CommandWords}
 use Rattle.layout.specs.declared.OperationParts.{OperationParts}
-use Rattle.layout.specs.Places.{layoutNumber, layoutAt, clockAt, chargeAt, commandAt, placeAt, operationAt, listAt, handAt, eraseLeftAt, togglesAt, addressAt, dataAt, programLeftAt, toggleAt, dybAt, ppbAt, lockAt}
+use Rattle.layout.specs.Places.{layoutNumber, layoutAt, clockAt, chargeAt, commandAt, placeAt, operationAt, listAt, handAt, eraseLeftAt, togglesAt, addressAt, dataAt, programLeftAt, toggleAt, dybAt, ppbAt, lockAt, recoveryAt}
 use Rattle.layout.specs.Commands.{commandWords}
 use Rattle.layout.specs.Operations.{operationParts}
 use Rattle.layout.specs.Image.{flag, toggles}
@@ -38,7 +38,7 @@ withProgram i q =
     set (set (set (set i addressAt (q .writes .at)) dataAt (q .writes .word)) programLeftAt (q .left)) toggleAt (flag (q .dq6))
 
 abbrev pub withParts : List ℕ → OperationParts → List ℕ
-withParts i o = set (withProgram (withErase i (o .erase)) (o .program)) operationAt (o .number)
+withParts i o = set (set (withProgram (withErase i (o .erase)) (o .program)) operationAt (o .number)) recoveryAt (o .recovery)
 
 unfoldable pub withOperation : List ℕ → Operation → List ℕ
 withOperation i o = withParts i (operationParts o)

@@ -4,9 +4,13 @@ use plain::Erase;
 use plain::Program;
 
 // A later layout has its new words at the end, and 0 there means "as before".
-pub const LAYOUT: u64 = 1;
+pub const LAYOUT: u64 = 2;
 
-pub const RECORD_WORDS: usize = 29;
+pub const RECORD_WORDS: usize = 30;
+// Layout 1 had all of its words but the last.
+pub const FIRST_LAYOUT: u64 = 1;
+
+pub const FIRST_WORDS: usize = 29;
 
 pub const LAYOUT_AT: usize = 0;
 
@@ -41,6 +45,8 @@ pub const DYB_AT: usize = 18;
 pub const PPB_AT: usize = 23;
 
 pub const LOCK_AT: usize = 28;
+// From layout 2 on: the time left of a recovery.
+pub const RECOVERY_AT: usize = 29;
 
 // The command register: its number, and the block or bank beside it.
 pub struct CommandWords {
@@ -48,9 +54,10 @@ pub struct CommandWords {
     pub place: u64,
 }
 
-// What runs or is suspended: its number, its erase and its program, all 0 where it has none.
+// What runs or is suspended: its number, its erase, its program and the time left of its recovery, all 0 where it has none.
 pub struct OperationParts {
     pub number: u64,
     pub erase: Erase,
     pub program: Program,
+    pub recovery: u64,
 }

@@ -7,7 +7,7 @@ use Rattle.geometry.specs.Parts.{bankOf}
 use Rattle.protection.specs.declared.Protection.{Protection}
 use Rattle.plain.specs.declared.Operation.{Operation}
 use Rattle.plain.specs.declared.Running.{Running}
-use Rattle.plain.specs.declared.Running.the-variants.{Still, Programs, Waits, Erases, ErasesChip}
+use Rattle.plain.specs.declared.Running.the-variants.{Still, Programs, Waits, Erases, Recovers, ErasesChip}
 use Rattle.plain.specs.declared.Command.{Command}
 use Rattle.plain.specs.declared.Command.the-variants.{Ground, Entering, Reads}
 use Rattle.plain.specs.declared.Reading.{Reading}
@@ -28,6 +28,7 @@ module _ (p : Part) (a : ℕ) where
   polls-same (Programs q) = refl
   polls-same (Waits e) = refl
   polls-same (Erases e) = refl
+  polls-same (Recovers r) = refl
   polls-same (ErasesChip e) = refl
 
   given-same : (r : Reading) → givenAt p r a ≡ givenIn r (bankOf p a)

@@ -15,7 +15,7 @@ use Rattle.plain.specs.declared.Erase.{Erase}
 use Rattle.plain.specs.declared.Inside.{Inside}
 use Rattle.plain.specs.declared.Inside.the-variants.{Nothing, Runs}
 use Rattle.plain.specs.declared.Operation.{Operation}
-use Rattle.plain.specs.declared.Operation.the-variants.{Idle, Programming, ProgramSuspended, Window, Erasing, EraseSuspended, ChipErasing}
+use Rattle.plain.specs.declared.Operation.the-variants.{Idle, Programming, ProgramSuspended, Window, Erasing, Recovering, EraseSuspended, ChipErasing}
 use Rattle.plain.specs.declared.Command.{Command}
 use Rattle.plain.specs.declared.Command.the-variants.{Ground}
 use Rattle.plain.specs.declared.Seen.{Seen}
@@ -58,13 +58,15 @@ module _ (p : Part) (bank : ℕ) where
       listed g = first-has (e .list) (suc (e .hand)) (omega (arith, ltb-true next (blockCount p) g, blocks-most p))
 
   tick-away : (bits : Protection) (o : Operation) → operationSound p bits o ≡ true → Away o → Away (operationTick p o)
-  unfolding operationTick runningOf suspensionOf runsIn restsIn
+  unfolding operationTick runningOf runningInside suspensionOf runsIn restsIn
   tick-away bits Idle s h = h
   tick-away bits (Programming q) s h = by-test Away (last (q .left)) (λ _. refl) (λ _. h)
   tick-away bits (ProgramSuspended q) s h = h
   tick-away bits (Window e) s h = by-test Away (last (e .left)) (λ _. h) (λ _. h)
   tick-away bits (Erasing e) s h =
       by-test Away (last (e .left)) (λ _. onward-away e (eraseTime p) (erasing p bits e s .one-bank) h) (λ _. h)
+  tick-away bits (Recovering r) s h =
+      by-test Away (last (r .left)) (λ _. both-left (not (eqb bank (bankOfBlock p (r .erase .hand)))) _ h) (λ _. h)
   tick-away bits (EraseSuspended s) _ h = inside-away (s .erase) (s .inside) h
   tick-away bits (ChipErasing e) s h = clash h refl
 
@@ -90,6 +92,7 @@ module _ (p : Part) (bank : ℕ) where
   polled-away (ProgramSuspended q) a h = h
   polled-away (Window e) a h = h
   polled-away (Erasing e) a h = h
+  polled-away (Recovering r) a h = h
   polled-away (EraseSuspended s) a h = inside-polled (s .erase) (s .inside) h
   polled-away (ChipErasing e) a h = h
 
@@ -100,6 +103,7 @@ module _ (p : Part) (bank : ℕ) where
   rested-away (ProgramSuspended q) h = h
   rested-away (Window e) h = h
   rested-away (Erasing e) h = h
+  rested-away (Recovering r) h = h
   rested-away (EraseSuspended s) h = h
   rested-away (ChipErasing e) h = h
 

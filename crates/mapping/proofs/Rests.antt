@@ -9,7 +9,7 @@ use Rattle.geometry.proofs.Laid.{laid}
 use Rattle.protection.specs.declared.Protection.{Protection}
 use Rattle.plain.specs.declared.Written.{Written}
 use Rattle.plain.specs.declared.Operation.{Operation}
-use Rattle.plain.specs.declared.Operation.the-variants.{Idle, Programming, ProgramSuspended, Window, Erasing, EraseSuspended, ChipErasing}
+use Rattle.plain.specs.declared.Operation.the-variants.{Idle, Programming, ProgramSuspended, Window, Erasing, Recovering, EraseSuspended, ChipErasing}
 use Rattle.plain.specs.declared.Suspension.{Suspension}
 use Rattle.plain.specs.declared.Suspension.the-variants.{Unsuspended, OfProgram, OfErase}
 use Rattle.plain.specs.Figures.{eraseTime}
@@ -34,6 +34,7 @@ known p bits (Programming q) s = tt
 known p bits (ProgramSuspended q) s = program-suspended p bits q s
 known p bits (Window e) s = tt
 known p bits (Erasing e) s = tt
+known p bits (Recovering r) s = tt
 known p bits (EraseSuspended r) s = erase-suspended p bits r s
 known p bits (ChipErasing e) s = tt
 

@@ -6,7 +6,7 @@ use Rattle.geometry.specs.declared.Part.{Part}
 use Rattle.geometry.specs.Parts.{bankOfBlock}
 use Rattle.plain.specs.declared.Operation.{Operation}
 use Rattle.plain.specs.declared.Running.{Running}
-use Rattle.plain.specs.declared.Running.the-variants.{Still, Programs, Waits, Erases, ErasesChip}
+use Rattle.plain.specs.declared.Running.the-variants.{Still, Programs, Waits, Erases, Recovers, ErasesChip}
 use Rattle.plain.specs.declared.Suspension.{Suspension}
 use Rattle.plain.specs.declared.Suspension.the-variants.{Unsuspended, OfProgram, OfErase}
 use Rattle.plain.specs.declared.Command.{Command}
@@ -32,6 +32,7 @@ runsIn p Still bank = false
 runsIn p (Programs q) bank = eqb bank (bankWritten p (q .writes))
 runsIn p (Waits e) bank = eqb bank (bankOfBlock p (e .hand))
 runsIn p (Erases e) bank = eqb bank (bankOfBlock p (e .hand))
+runsIn p (Recovers r) bank = eqb bank (bankOfBlock p (r .erase .hand))
 runsIn p (ErasesChip e) bank = true
 
 -- the bank of what is suspended: "an erase list .. lies in one bank"

@@ -53,6 +53,10 @@ fn runs_in(part: Part, running: Running, bank: usize) -> bool
         }
         Running::Waits(erase) => bank == part.bank_of_block(erase.hand),
         Running::Erases(erase) => bank == part.bank_of_block(erase.hand),
+        Running::Recovers(recovery) => {
+            let erase = recovery.erase;
+            bank == part.bank_of_block(erase.hand)
+        }
         Running::ErasesChip(_) => true,
     }
 }

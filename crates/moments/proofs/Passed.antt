@@ -12,7 +12,7 @@ use Rattle.plain.specs.Lent.{Lent}
 use Rattle.plain.specs.Time.{Moment, moment, ticks}
 use Rattle.plain.proofs.Ticks.{Still, still}
 use Rattle.moments.specs.declared.Moved.{Moved}
-use Rattle.moments.specs.Moments.{moved, Passable}
+use Rattle.moments.specs.Moments.{moved, MovesAlone, Passable}
 
 pub record Passed (p : Part) (n : ℕ) (from : Moment) (r : Moved) (cells : List ℕ) : Type 0 where
   pub result : r ≡ moved (ticks p n from)
@@ -24,6 +24,10 @@ passed p n from to e = record { result = sym (ap moved e); exit = sym (ap (λ (m
 -- a wait from elsewhere that comes to the same
 pub instead : (p : Part) (n k : ℕ) (from x : Moment) (r : Moved) (cells : List ℕ) → ticks p k x ≡ ticks p n from → Passed p k x r cells → Passed p n from r cells
 instead p n k from x r cells e d = record { result = d .result ∙ ap moved e; exit = d .exit ∙ ap (λ (m : Moment). m .lent .cells) e }
+
+-- what is lent stays as it is
+pub alone-passed : (p : Part) (m : Meter) (o : Operation) (l : Lent) (n : ℕ) (r : Moved) → MovesAlone p n m o r → Passed p n (moment m o l) r (l .cells)
+alone-passed p m o l n r f = passed p n (moment m o l) (moment (r .meter) (r .operation) l) (f l)
 
 -- nothing runs
 pub still-passed : (p : Part) (m : Meter) (o : Operation) (l : Lent) (n : ℕ) → Still p o (standbyCurrent p)

@@ -1,12 +1,13 @@
-// What runs or is suspended, and its number, its erase and its program.
+// What runs or is suspended, and its number, its erase, its program and the time left of its recovery.
 ghost use mathlib.Core.Path.{_≡_};
-ghost use Rattle.layout.specs.Operations.{noErase, noProgram, parts, suspendedParts, operationParts, operationOf};
+ghost use Rattle.layout.specs.Operations.{noErase, noProgram, partsWith, parts, suspendedParts, operationParts, operationNumbered, operationOf};
 use blocks::Blocks;
 use layout::OperationParts;
 use plain::Erase;
 use plain::Inside;
 use plain::Operation;
 use plain::Program;
+use plain::Recovery;
 use plain::SuspendedErase;
 use plain::Written;
 
@@ -19,6 +20,15 @@ pub fn parts_of(operation: Operation) -> OperationParts
         Operation::ProgramSuspended(program) => parts(2, no_erase(), program),
         Operation::Window(erase) => parts(3, erase, no_program()),
         Operation::Erasing(erase) => parts(4, erase, no_program()),
+        Operation::Recovering(recovery) => {
+            let erase = recovery.erase;
+            OperationParts {
+                number: 4,
+                erase: erase,
+                program: no_program(),
+                recovery: recovery.left,
+            }
+        }
         Operation::EraseSuspended(suspended) => {
             let inside = suspended.inside;
             suspended_parts(suspended.erase, inside)
@@ -43,6 +53,7 @@ fn parts(number: u64, erase: Erase, program: Program) -> OperationParts
         number: number,
         erase: erase,
         program: program,
+        recovery: 0,
     }
 }
 
@@ -75,9 +86,21 @@ fn no_program() -> Program
     }
 }
 
+pub fn operation_of(number: u64, erase: Erase, program: Program, recovery: u64) -> Operation
+    ensures { λ r. ⌜ r ≡ operationOf (partsWith number erase program recovery) ⌝ }
+{
+    if recovery == 0 {
+        return operation_numbered(number, erase, program);
+    }
+    Operation::Recovering(Recovery {
+        erase: erase,
+        left: recovery,
+    })
+}
+
 // Of a number past 7, which no record has, it tells that nothing runs.
-pub fn operation_of(number: u64, erase: Erase, program: Program) -> Operation
-    ensures { λ r. ⌜ r ≡ operationOf (parts number erase program) ⌝ }
+fn operation_numbered(number: u64, erase: Erase, program: Program) -> Operation
+    ensures { λ r. ⌜ r ≡ operationNumbered number erase program ⌝ }
 {
     match number {
         1 => Operation::Programming(program),

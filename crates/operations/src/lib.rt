@@ -15,6 +15,7 @@ pub fn running_of(operation: Operation) -> Running
         Operation::ProgramSuspended(_) => Running::Still,
         Operation::Window(erase) => Running::Waits(erase),
         Operation::Erasing(erase) => Running::Erases(erase),
+        Operation::Recovering(recovery) => Running::Recovers(recovery),
         Operation::EraseSuspended(suspended) => {
             let inside = suspended.inside;
             running_inside(inside)
@@ -43,6 +44,7 @@ pub fn suspension_of(operation: Operation) -> Suspension
         Operation::ProgramSuspended(program) => Suspension::OfProgram(program),
         Operation::Window(_) => Suspension::Unsuspended,
         Operation::Erasing(_) => Suspension::Unsuspended,
+        Operation::Recovering(_) => Suspension::Unsuspended,
         Operation::EraseSuspended(suspended) => {
             let erase = suspended.erase;
             Suspension::OfErase(erase)

@@ -4,7 +4,7 @@ use mathlib.Core.List.{List}
 use Rattle.plain.specs.Choice.{if_then_else_}
 use Rattle.layout.specs.Image.{deviceOf}
 use Rattle.remaining.specs.declared.Change.{Change}
-use Rattle.remaining.specs.declared.Change.the-variants.{Never, WindowEnds, WordDone, BlockDone}
+use Rattle.remaining.specs.declared.Change.the-variants.{Never, WindowEnds, RecoveryEnds, WordDone, BlockDone}
 use Rattle.judged.specs.declared.foreseen.Figure.{Figure}
 use Rattle.judged.specs.declared.foreseen.Figure.the-variants.{Unknown, Known}
 use Rattle.judged.specs.Foreseen.{endNow, changeNow, debrisNow}
@@ -20,18 +20,21 @@ figureNumber (Known n) = n
 unfoldable pub changeTime : Change → ℕ
 changeTime Never = none
 changeTime (WindowEnds n) = n
+changeTime (RecoveryEnds n) = n
 changeTime (WordDone f) = f .after
 changeTime (BlockDone f) = f .after
 
 unfoldable pub changeBlock : Change → ℕ
 changeBlock Never = none
 changeBlock (WindowEnds n) = none
+changeBlock (RecoveryEnds n) = none
 changeBlock (WordDone f) = none
 changeBlock (BlockDone f) = f .at
 
 unfoldable pub changeWord : Change → ℕ
 changeWord Never = none
 changeWord (WindowEnds n) = none
+changeWord (RecoveryEnds n) = none
 changeWord (WordDone f) = f .at
 changeWord (BlockDone f) = none
 

@@ -26,6 +26,7 @@ fn change_time(change: Change) -> u64
     match change {
         Change::Never => NONE,
         Change::WindowEnds(after) => after,
+        Change::RecoveryEnds(after) => after,
         Change::WordDone(finish) => finish.after,
         Change::BlockDone(finish) => finish.after,
     }
@@ -37,6 +38,7 @@ fn change_block(change: Change) -> u64
     match change {
         Change::Never => NONE,
         Change::WindowEnds(_) => NONE,
+        Change::RecoveryEnds(_) => NONE,
         Change::WordDone(_) => NONE,
         Change::BlockDone(finish) => finish.at as u64,
     }
@@ -48,6 +50,7 @@ fn change_word(change: Change) -> u64
     match change {
         Change::Never => NONE,
         Change::WindowEnds(_) => NONE,
+        Change::RecoveryEnds(_) => NONE,
         Change::WordDone(finish) => finish.at as u64,
         Change::BlockDone(_) => NONE,
     }

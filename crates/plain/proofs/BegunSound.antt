@@ -13,7 +13,7 @@ use Rattle.plain.specs.declared.Inside.{Inside}
 use Rattle.plain.specs.declared.Inside.the-variants.{Nothing, Runs}
 use Rattle.plain.specs.declared.SuspendedErase.{SuspendedErase}
 use Rattle.plain.specs.declared.Operation.{Operation}
-use Rattle.plain.specs.declared.Operation.the-variants.{Idle, Programming, ProgramSuspended, Window, Erasing, EraseSuspended, ChipErasing}
+use Rattle.plain.specs.declared.Operation.the-variants.{Idle, Programming, ProgramSuspended, Window, Erasing, Recovering, EraseSuspended, ChipErasing}
 use Rattle.plain.specs.declared.BegunProgram.{BegunProgram}
 use Rattle.plain.specs.declared.BegunProgram.the-variants.{Writes}
 use Rattle.plain.specs.Figures.{programTime}
@@ -53,6 +53,7 @@ module _ (p : Part) (bits : Protection) where
   program-free (ProgramSuspended q) s d e = free-of q d (program-suspended p bits q s) e
   program-free (Window x) s d e = no-program e
   program-free (Erasing x) s d e = no-program e
+  program-free (Recovering x) s d e = no-program e
   program-free (EraseSuspended x) s d e = inside-free x (x .inside) refl s d e
   program-free (ChipErasing x) s d e = no-program e
 

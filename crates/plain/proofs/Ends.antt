@@ -13,7 +13,7 @@ use Rattle.plain.specs.declared.Inside.{Inside}
 use Rattle.plain.specs.declared.Inside.the-variants.{Nothing, Runs}
 use Rattle.plain.specs.declared.SuspendedErase.{SuspendedErase}
 use Rattle.plain.specs.declared.Operation.{Operation}
-use Rattle.plain.specs.declared.Operation.the-variants.{Idle, Programming, ProgramSuspended, Window, Erasing, EraseSuspended, ChipErasing}
+use Rattle.plain.specs.declared.Operation.the-variants.{Idle, Programming, ProgramSuspended, Window, Erasing, Recovering, EraseSuspended, ChipErasing}
 use Rattle.plain.specs.Operations.{runningOf, runningInside}
 use Rattle.plain.specs.Ends.{endsProtected, someEndProtected, NeverEndsProtected}
 use Rattle.plain.specs.Unmade.{Met}
@@ -44,6 +44,7 @@ module _ (p : Part) (bits : Protection) where
   ends-free (ProgramSuspended q) s = refl
   ends-free (Window e) s = refl
   ends-free (Erasing e) s = hand-free e _ (erasing p bits e s .erase)
+  ends-free (Recovering r) s = refl
   ends-free (EraseSuspended x) s = inside-free x (x .inside) refl s
   ends-free (ChipErasing e) s = hand-free e _ (chip-erasing p bits e s)
 

@@ -15,11 +15,12 @@ use Rattle.protection.proofs.Stray.{stray-fresh}
 use Rattle.plain.specs.declared.Program.{Program}
 use Rattle.plain.specs.declared.Erase.{Erase}
 use Rattle.plain.specs.declared.SuspendedErase.{SuspendedErase}
+use Rattle.plain.specs.declared.Recovery.{Recovery}
 use Rattle.plain.specs.declared.Inside.the-variants.{Runs}
 use Rattle.plain.specs.declared.Operation.{Operation}
-use Rattle.plain.specs.declared.Operation.the-variants.{Programming, ProgramSuspended, Window, Erasing, EraseSuspended, ChipErasing}
+use Rattle.plain.specs.declared.Operation.the-variants.{Programming, ProgramSuspended, Window, Erasing, Recovering, EraseSuspended, ChipErasing}
 use Rattle.plain.specs.declared.Device.{Device}
-use Rattle.plain.specs.Figures.{programTime, windowTime, eraseTime, chipTime, runningCurrent, clockLimit}
+use Rattle.plain.specs.Figures.{programTime, windowTime, eraseTime, recoveryTime, chipTime, runningCurrent, clockLimit}
 use Rattle.plain.specs.Operations.{runningOf, suspensionOf}
 use Rattle.plain.specs.Programs.{liesIn, blockWritten}
 use Rattle.plain.specs.Record.{fresh}
@@ -157,6 +158,22 @@ pub erasing : (p : Part) (bits : Protection) (e : Erase) → operationSound p bi
 unfolding operationSound
 erasing p bits e s =
     block-erase-facts p bits e (eraseTime p) (both-left (listSound p bits e) _ s) (both-right (listSound p bits e) _ s)
+
+pub record RecoveryFacts (p : Part) (bits : Protection) (r : Recovery) : Type 0 where
+  pub erase : BlockEraseFacts p bits (r .erase) (eraseTime p)
+  pub some-left : 1 ≤ r .left
+  pub most-left : r .left ≤ recoveryTime p
+
+pub recovering : (p : Part) (bits : Protection) (r : Recovery) → operationSound p bits (Recovering r) ≡ true → RecoveryFacts p bits r
+unfolding operationSound
+recovering p bits r s =
+    let stopped = operationSound p bits (Erasing (r .erase)) in
+    let time = both-right stopped _ s in
+    record {
+      erase = erasing p bits (r .erase) (both-left stopped _ s);
+      some-left = leb-true _ _ (both-left (leb 1 (r .left)) _ time);
+      most-left = leb-true _ _ (both-right (leb 1 (r .left)) _ time);
+    }
 
 pub erase-suspended : (p : Part) (bits : Protection) (s : SuspendedErase) → operationSound p bits (EraseSuspended s) ≡ true → BlockEraseFacts p bits (s .erase) (eraseTime p)
 unfolding operationSound

@@ -13,15 +13,16 @@ use Rattle.protection.specs.Protection.{strayBits}
 use Rattle.plain.specs.declared.Program.{Program}
 use Rattle.plain.specs.declared.Erase.{Erase}
 use Rattle.plain.specs.declared.Inside.the-variants.{Nothing, Runs}
+use Rattle.plain.specs.declared.Recovery.{Recovery}
 use Rattle.plain.specs.declared.Operation.{Operation}
-use Rattle.plain.specs.declared.Operation.the-variants.{Idle, Programming, Window, Erasing, EraseSuspended, ChipErasing}
+use Rattle.plain.specs.declared.Operation.the-variants.{Idle, Programming, Window, Erasing, Recovering, EraseSuspended, ChipErasing}
 use Rattle.plain.specs.declared.Command.{Command}
-use Rattle.plain.specs.Figures.{programTime, windowTime, eraseTime, chipTime, runningCurrent, clockLimit}
+use Rattle.plain.specs.Figures.{programTime, windowTime, eraseTime, recoveryTime, chipTime, runningCurrent, clockLimit}
 use Rattle.plain.specs.Record.{device, suspended}
 use Rattle.plain.specs.Sound.{meterSound, timeSound, programSound, mayErase, mayChipErase, listSound, chipListSound, lowest, insideSound, operationSound, commandSound, sound}
 use Rattle.plain.proofs.Tools.{both}
 use Rattle.plain.proofs.Lists.{only-make}
-use Rattle.plain.proofs.Facts.{ProgramFacts, EraseFacts, BlockEraseFacts, InsideFacts}
+use Rattle.plain.proofs.Facts.{ProgramFacts, EraseFacts, BlockEraseFacts, RecoveryFacts, InsideFacts}
 
 time-holds : (left full : ℕ) → 1 ≤ left → left ≤ full → timeSound left full ≡ true
 time-holds left full h g = both (leb 1 left) (leb left full) (le-leb 1 left h) (le-leb left full g)
@@ -74,6 +75,10 @@ module _ (p : Part) (bits : Protection) where
   unfolding operationSound
   erasing-holds e f =
       both _ _ (list-holds e (eraseTime p) f) (time-holds (e .left) (eraseTime p) (f .erase .some-left) (f .erase .most-left))
+
+  pub recovering-holds : (r : Recovery) → RecoveryFacts p bits r → operationSound p bits (Recovering r) ≡ true
+  unfolding operationSound
+  recovering-holds r f = both _ _ (erasing-holds (r .erase) (f .erase)) (time-holds (r .left) (recoveryTime p) (f .some-left) (f .most-left))
 
   pub resting-holds : (e : Erase) → BlockEraseFacts p bits e (eraseTime p) → operationSound p bits (EraseSuspended (suspended e Nothing)) ≡ true
   unfolding operationSound insideSound

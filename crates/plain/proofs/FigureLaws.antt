@@ -3,7 +3,7 @@ use Prim.Native.Nat.{ℕ, _+_, _*_, _^_, _<_, _≤_}
 use native.Mathlib.Omega.{arith}
 use lib.Dec.{lit≤}
 use Rattle.geometry.specs.declared.Part.{Part}
-use Rattle.plain.specs.Figures.{programTime, windowTime, eraseTime, chipTime, runningCurrent, standbyCurrent, clockLimit}
+use Rattle.plain.specs.Figures.{programTime, windowTime, eraseTime, recoveryTime, chipTime, runningCurrent, standbyCurrent, clockLimit}
 
 module _ (p : Part) where
   pub program-some : 1 ≤ programTime p
@@ -17,6 +17,10 @@ module _ (p : Part) where
   pub erase-some : 1 ≤ eraseTime p
   unfolding eraseTime
   erase-some = lit≤ tt
+
+  pub recovery-some : 1 ≤ recoveryTime p
+  unfolding recoveryTime
+  recovery-some = lit≤ tt
 
   pub chip-some : 1 ≤ chipTime p
   unfolding chipTime

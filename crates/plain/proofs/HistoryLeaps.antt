@@ -12,8 +12,9 @@ use Rattle.geometry.specs.declared.Part.{Part}
 use Rattle.plain.specs.declared.Refusal.{Refusal}
 use Rattle.plain.specs.declared.Command.{Command}
 use Rattle.plain.specs.Events.{Event, read, write, wait, cut, Turn}
-use Rattle.plain.specs.Figures.{programTime, windowTime, eraseTime, chipTime}
-use Rattle.plain.specs.History.{Fact, Doing, nothing, programs, waits, erases, wipes, rests, programsIn, Told, telling, Kind, taken, lost, dropped, unheard, kind, draws, goes, comes, microsecond, time, wroteAs, waitedAs, cutAs, tell, told}
+use Rattle.plain.specs.Figures.{programTime, windowTime, eraseTime, recoveryTime, chipTime}
+use Rattle.plain.specs.History.{Doing, nothing, programs, waits, erases, recovers, wipes, rests, programsIn, Told, telling, Kind, taken, lost, dropped, unheard, kind, draws, goes, comes, microsecond, time, wroteAs, waitedAs, cutAs, tell, told}
+use Rattle.plain.specs.Holds.{Fact}
 use Rattle.plain.proofs.Leaps.{Due, never, due}
 
 -- the time to go until something comes to pass
@@ -22,6 +23,7 @@ toGo p nothing = never
 toGo p (programs d g) = due (programTime p - g)
 toGo p (waits l b g) = due (windowTime p - g)
 toGo p (erases l b g) = due (eraseTime p - g)
+toGo p (recovers l b g n) = due (recoveryTime p - n)
 toGo p (wipes l b g) = due (chipTime p - g)
 toGo p (rests l b g) = never
 toGo p (programsIn d pg l b g) = due (programTime p - pg)
@@ -32,6 +34,7 @@ further nothing k = nothing
 further (programs d g) k = programs d (g + k)
 further (waits l b g) k = waits l b (g + k)
 further (erases l b g) k = erases l b (g + k)
+further (recovers l b g n) k = recovers l b g (n + k)
 further (wipes l b g) k = wipes l b (g + k)
 further (rests l b g) k = rests l b g
 further (programsIn d pg l b g) k = programsIn d (pg + k) l b g
@@ -111,6 +114,9 @@ module _ (p : Part) (c : Command) (y q : Blocks) where
   quiet-time (erases s b g) l x k h fs t e =
       let i : eraseTime p - g ≡ l = cc in
       counted (erases s b) (eraseTime p) _ (record { on = λ n m. rw (not-yet n (eraseTime p) m); quiet = λ n m f. rw (not-yet n (eraseTime p) m); rates = λ n. refl }) k g (omega arith) fs t e
+  quiet-time (recovers s b g o) l x k h fs t e =
+      let i : recoveryTime p - o ≡ l = cc in
+      counted (recovers s b g) (recoveryTime p) _ (record { on = λ n m. rw (not-yet n (recoveryTime p) m); quiet = λ n m f. refl; rates = λ n. refl }) k o (omega arith) fs t e
   quiet-time (wipes s b g) l x k h fs t e =
       let i : chipTime p - g ≡ l = cc in
       counted (wipes s b) (chipTime p) _ (record { on = λ n m. rw (not-yet n (chipTime p) m); quiet = λ n m f. rw (not-yet n (chipTime p) m); rates = λ n. refl }) k g (omega arith) fs t e
@@ -125,6 +131,7 @@ module _ (p : Part) (c : Command) (y q : Blocks) where
   still-time (programs d g) x k fs t e = let z : _≡_ {A = ℕ} 0 1 = cc in absurd (omega arith)
   still-time (waits s b g) x k fs t e = let z : _≡_ {A = ℕ} 0 1 = cc in absurd (omega arith)
   still-time (erases s b g) x k fs t e = let z : _≡_ {A = ℕ} 0 1 = cc in absurd (omega arith)
+  still-time (recovers s b g o) x k fs t e = let z : _≡_ {A = ℕ} 0 1 = cc in absurd (omega arith)
   still-time (wipes s b g) x k fs t e = let z : _≡_ {A = ℕ} 0 1 = cc in absurd (omega arith)
   still-time (rests s b g) x k fs t e = stayed (rests s b g) refl (λ f. refl) k fs t e
   still-time (programsIn d pg s b g) x k fs t e = let z : _≡_ {A = ℕ} 0 1 = cc in absurd (omega arith)

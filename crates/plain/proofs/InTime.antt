@@ -8,11 +8,11 @@ use Rattle.plain.specs.declared.Program.{Program}
 use Rattle.plain.specs.declared.Erase.{Erase}
 use Rattle.plain.specs.declared.Inside.the-variants.{Nothing, Runs}
 use Rattle.plain.specs.declared.Operation.{Operation}
-use Rattle.plain.specs.declared.Operation.the-variants.{Idle, Programming, ProgramSuspended, Window, Erasing, EraseSuspended, ChipErasing}
+use Rattle.plain.specs.declared.Operation.the-variants.{Idle, Programming, ProgramSuspended, Window, Erasing, Recovering, EraseSuspended, ChipErasing}
 use Rattle.plain.specs.Figures.{eraseTime, chipTime, runningCurrent, standbyCurrent}
 use Rattle.plain.specs.Operations.{runningOf, runningInside}
 use Rattle.plain.specs.Programs.{finished}
-use Rattle.plain.specs.Record.{programLeft, eraseLeft, suspended}
+use Rattle.plain.specs.Record.{programLeft, eraseLeft, suspended, recovery}
 use Rattle.plain.specs.Time.{current, operationTick, insideTick, lentTick, eraseFinished, onward}
 use Rattle.plain.proofs.Ticks.{Still, Running}
 
@@ -60,6 +60,18 @@ pub window-running : (p : Part) (e : Erase)
     → Running p (λ l. Window (eraseLeft e l)) (standbyCurrent p) (Erasing (eraseLeft e (eraseTime p))) (λ l. l)
 unfolding runningOf current operationTick lentTick
 window-running p e =
+    record {
+      draws = λ n. refl;
+      steps = λ n h. rw (lt-leb n 1 h);
+      keeps = λ n h l. refl;
+      ends = refl;
+      finishes = λ l. refl;
+    }
+
+pub recovery-running : (p : Part) (e : Erase)
+    → Running p (λ l. Recovering (recovery e l)) (runningCurrent p) (EraseSuspended (suspended e Nothing)) (λ l. l)
+unfolding runningOf current operationTick lentTick
+recovery-running p e =
     record {
       draws = λ n. refl;
       steps = λ n h. rw (lt-leb n 1 h);

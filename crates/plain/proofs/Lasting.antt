@@ -1,6 +1,8 @@
 -- What time keeps of an operation: of a property that asks of a program no more than what it writes, one walk over the microseconds.
-use Prim.Native.Nat.{ℕ, zero, suc, _-_}
+use Prim.Native.Nat.{ℕ, zero, suc, _-_, _<_}
+use native.Mathlib.Omega.{arith}
 use lib.Dec.{ltb}
+use borrow.Author.Tests.{leb-false}
 use Rattle.blocks.specs.Blocks.{firstFrom}
 use Rattle.geometry.specs.declared.Part.{Part}
 use Rattle.geometry.specs.Parts.{blockCount}
@@ -9,17 +11,18 @@ use Rattle.plain.specs.declared.Erase.{Erase}
 use Rattle.plain.specs.declared.Inside.{Inside}
 use Rattle.plain.specs.declared.Inside.the-variants.{Nothing, Runs}
 use Rattle.plain.specs.declared.Operation.{Operation}
-use Rattle.plain.specs.declared.Operation.the-variants.{Idle, Programming, ProgramSuspended, Window, Erasing, EraseSuspended, ChipErasing}
+use Rattle.plain.specs.declared.Operation.the-variants.{Idle, Programming, ProgramSuspended, Window, Erasing, Recovering, EraseSuspended, ChipErasing}
 use Rattle.plain.specs.Figures.{eraseTime, chipTime}
-use Rattle.plain.specs.Record.{programLeft, suspended}
+use Rattle.plain.specs.Record.{programLeft, suspended, recovery}
 use Rattle.plain.specs.Time.{Moment, last, onward, insideTick, operationTick, tick, ticks}
 use Rattle.plain.proofs.Tools.{by-test}
 
--- erases have it, and a program keeps it with another time left
+-- erases have it, a recovery while it has time left, and a program keeps it with another time left
 pub record Lasting (P : Operation → Type 0) : Type 0 where
   pub idle : P Idle
   pub window : (e : Erase) → P (Window e)
   pub erasing : (e : Erase) → P (Erasing e)
+  pub recovering : (e : Erase) (left : ℕ) → 0 < left → P (Recovering (recovery e left))
   pub chip-erasing : (e : Erase) → P (ChipErasing e)
   pub resting : (e : Erase) → P (EraseSuspended (suspended e Nothing))
   pub programming : (q : Program) (left : ℕ) → P (Programming q) → P (Programming (programLeft q left))
@@ -41,6 +44,7 @@ module _ (p : Part) (P : Operation → Type 0) (k : Lasting P) where
   tick-lasts (ProgramSuspended q) h = h
   tick-lasts (Window e) h = by-test P (last (e .left)) (λ _. k .erasing _) (λ _. k .window _)
   tick-lasts (Erasing e) h = by-test P (last (e .left)) (λ _. onward-lasts Erasing (eraseTime p) e (k .erasing)) (λ _. k .erasing _)
+  tick-lasts (Recovering r) h = by-test P (last (r .left)) (λ _. k .resting (r .erase)) (λ t. k .recovering (r .erase) (r .left - 1) (omega (arith, leb-false (r .left) 1 t)))
   tick-lasts (EraseSuspended s) h = inside-lasts (s .erase) (s .inside) h
   tick-lasts (ChipErasing e) h = by-test P (last (e .left)) (λ _. onward-lasts ChipErasing (chipTime p) e (k .chip-erasing)) (λ _. k .chip-erasing _)
 

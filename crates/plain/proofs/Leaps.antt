@@ -11,13 +11,13 @@ use Rattle.plain.specs.declared.Erase.{Erase}
 use Rattle.plain.specs.declared.Inside.{Inside}
 use Rattle.plain.specs.declared.Inside.the-variants.{Nothing, Runs}
 use Rattle.plain.specs.declared.Operation.{Operation}
-use Rattle.plain.specs.declared.Operation.the-variants.{Idle, Programming, ProgramSuspended, Window, Erasing, EraseSuspended, ChipErasing}
+use Rattle.plain.specs.declared.Operation.the-variants.{Idle, Programming, ProgramSuspended, Window, Erasing, Recovering, EraseSuspended, ChipErasing}
 use Rattle.plain.specs.Lent.{Lent}
 use Rattle.plain.specs.Operations.{runningOf, runningInside}
-use Rattle.plain.specs.Record.{programLeft, eraseLeft, suspended}
+use Rattle.plain.specs.Record.{programLeft, eraseLeft, suspended, recovery}
 use Rattle.plain.specs.Time.{Moment, moment, current, tick, ticks}
 use Rattle.plain.proofs.Ticks.{ticks-add, drawn, still, drift}
-use Rattle.plain.proofs.InTime.{idle-still, program-still, erase-still, program-running, inside-running, window-running, erase-running}
+use Rattle.plain.proofs.InTime.{idle-still, program-still, erase-still, program-running, inside-running, window-running, erase-running, recovery-running}
 
 -- ---- when the next thing happens
 
@@ -35,6 +35,7 @@ dueOf (Programming q) = due (q .left)
 dueOf (ProgramSuspended q) = never
 dueOf (Window e) = due (e .left)
 dueOf (Erasing e) = due (e .left)
+dueOf (Recovering r) = due (r .left)
 dueOf (EraseSuspended s) = insideDue (s .inside)
 dueOf (ChipErasing e) = due (e .left)
 
@@ -49,6 +50,7 @@ less (Programming q) k = Programming (programLeft q (q .left - k))
 less (ProgramSuspended q) k = ProgramSuspended q
 less (Window e) k = Window (eraseLeft e (e .left - k))
 less (Erasing e) k = Erasing (eraseLeft e (e .left - k))
+less (Recovering r) k = Recovering (recovery (r .erase) (r .left - k))
 less (EraseSuspended s) k = EraseSuspended (suspended (s .erase) (insideLess (s .inside) k))
 less (ChipErasing e) k = ChipErasing (eraseLeft e (e .left - k))
 
@@ -69,6 +71,7 @@ drift-never p (Programming q) d n m cells = let z : _≡_ {A = ℕ} 0 1 = cc in 
 drift-never p (ProgramSuspended q) d n m cells = still p (ProgramSuspended q) _ (program-still p q) n m cells
 drift-never p (Window e) d n m cells = let z : _≡_ {A = ℕ} 0 1 = cc in absurd (omega arith)
 drift-never p (Erasing e) d n m cells = let z : _≡_ {A = ℕ} 0 1 = cc in absurd (omega arith)
+drift-never p (Recovering r) d n m cells = let z : _≡_ {A = ℕ} 0 1 = cc in absurd (omega arith)
 drift-never p (EraseSuspended s) d n m cells = inside-never p (s .erase) (s .inside) d n m cells
 drift-never p (ChipErasing e) d n m cells = let z : _≡_ {A = ℕ} 0 1 = cc in absurd (omega arith)
 
@@ -94,6 +97,9 @@ drift-due p (Window e) l d n h m cells =
 drift-due p (Erasing e) l d n h m cells =
     let i : e .left ≡ l = cc in
     drift p _ _ _ _ (erase-running p false e) n (e .left) m cells (omega arith)
+drift-due p (Recovering r) l d n h m cells =
+    let i : r .left ≡ l = cc in
+    drift p _ _ _ _ (recovery-running p (r .erase)) n (r .left) m cells (omega arith)
 drift-due p (EraseSuspended s) l d n h m cells = inside-due p (s .erase) (s .inside) l d n h m cells
 drift-due p (ChipErasing e) l d n h m cells =
     let i : e .left ≡ l = cc in

@@ -10,7 +10,7 @@ use Rattle.plain.specs.declared.Erase.{Erase}
 use Rattle.plain.specs.declared.Inside.{Inside}
 use Rattle.plain.specs.declared.Inside.the-variants.{Nothing, Runs}
 use Rattle.plain.specs.declared.Operation.{Operation}
-use Rattle.plain.specs.declared.Operation.the-variants.{Idle, Programming, ProgramSuspended, Window, Erasing, EraseSuspended, ChipErasing}
+use Rattle.plain.specs.declared.Operation.the-variants.{Idle, Programming, ProgramSuspended, Window, Erasing, Recovering, EraseSuspended, ChipErasing}
 use Rattle.plain.specs.Choice.{if_then_else_}
 use Rattle.plain.specs.Figures.{eraseTime, chipTime}
 use Rattle.plain.specs.Lent.{Lent}
@@ -30,6 +30,7 @@ raisesIn l (Programming q) = raises (q .writes) l
 raisesIn l (ProgramSuspended q) = raises (q .writes) l
 raisesIn l (Window e) = false
 raisesIn l (Erasing e) = false
+raisesIn l (Recovering r) = false
 raisesIn l (EraseSuspended s) = raisesInside l (s .inside)
 raisesIn l (ChipErasing e) = false
 
@@ -50,12 +51,13 @@ module _ (p : Part) where
   inside-modest e (Runs q) l h = by-cases (last (q .left)) (λ t. rw t) (λ t. rw t h)
 
   pub tick-modest : (o : Operation) (l : Lent) → Modest l o → Modest (lentTick p (runningOf o) l) (operationTick p o)
-  unfolding raisesIn runningOf operationTick lentTick
+  unfolding raisesIn raisesInside runningOf operationTick lentTick
   tick-modest Idle l h = refl
   tick-modest (Programming q) l h = by-cases (last (q .left)) (λ t. rw t) (λ t. rw t h)
   tick-modest (ProgramSuspended q) l h = h
   tick-modest (Window e) l h = by-test (Modest l) (last (e .left)) (λ _. refl) (λ _. refl)
   tick-modest (Erasing e) l h = erase-modest _ Erasing (eraseTime p) e (λ x. refl)
+  tick-modest (Recovering r) l h = by-test (Modest l) (last (r .left)) (λ _. refl) (λ _. refl)
   tick-modest (EraseSuspended s) l h = inside-modest (s .erase) (s .inside) l h
   tick-modest (ChipErasing e) l h = erase-modest _ ChipErasing (chipTime p) e (λ x. refl)
 

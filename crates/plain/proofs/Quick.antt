@@ -13,7 +13,7 @@ use Rattle.geometry.proofs.Laid.{block-fits}
 use Rattle.plain.specs.declared.Refusal.{Refusal}
 use Rattle.plain.specs.declared.Refusal.the-variants.{Address, Clock, Debris}
 use Rattle.plain.specs.declared.Running.{Running}
-use Rattle.plain.specs.declared.Running.the-variants.{Still, Programs, Waits, Erases, ErasesChip}
+use Rattle.plain.specs.declared.Running.the-variants.{Still, Programs, Waits, Erases, Recovers, ErasesChip}
 use Rattle.plain.specs.declared.Device.{Device}
 use Rattle.plain.specs.Choice.{if_then_else_}
 use Rattle.plain.specs.Cut.{debrisNeeded}
@@ -82,6 +82,7 @@ module _ (p : Part) where
   tick-keeps (Programs q) l h = by-test (Kept l) (last (q .left)) (λ e. length-finished (q .writes) l) (λ e. refl)
   tick-keeps (Waits e) l h = refl
   tick-keeps (Erases e) l h = by-test (Kept l) (last (e .left)) (λ f. length-erased (l .cells) _ _ (rw h (block-fits p (e .hand)))) (λ f. refl)
+  tick-keeps (Recovers r) l h = refl
   tick-keeps (ErasesChip e) l h = by-test (Kept l) (last (e .left)) (λ f. length-erased (l .cells) _ _ (rw h (block-fits p (e .hand)))) (λ f. refl)
 
   ticks-keep : (n : ℕ) (m : Moment) → length (m .lent .cells) ≡ wordCount p → Kept (m .lent) (ticks p n m .lent)

@@ -16,11 +16,11 @@ use Rattle.plain.specs.declared.Erase.{Erase}
 use Rattle.plain.specs.declared.Inside.{Inside}
 use Rattle.plain.specs.declared.Inside.the-variants.{Nothing, Runs}
 use Rattle.plain.specs.declared.Operation.{Operation}
-use Rattle.plain.specs.declared.Operation.the-variants.{Idle, Programming, ProgramSuspended, Window, Erasing, EraseSuspended, ChipErasing}
+use Rattle.plain.specs.declared.Operation.the-variants.{Idle, Programming, ProgramSuspended, Window, Erasing, Recovering, EraseSuspended, ChipErasing}
 use Rattle.plain.specs.declared.Running.{Running}
-use Rattle.plain.specs.declared.Running.the-variants.{Still, Programs, Waits, Erases, ErasesChip}
+use Rattle.plain.specs.declared.Running.the-variants.{Still, Programs, Waits, Erases, Recovers, ErasesChip}
 use Rattle.plain.specs.declared.Command.{Command}
-use Rattle.plain.specs.Figures.{programTime, windowTime, eraseTime, chipTime, runningCurrent}
+use Rattle.plain.specs.Figures.{programTime, windowTime, eraseTime, recoveryTime, chipTime, runningCurrent}
 use Rattle.plain.specs.Choice.{if_then_else_}
 use Rattle.plain.specs.Operations.{runningOf, runningInside}
 use Rattle.plain.specs.Record.{programLeft, erase, eraseLeft, suspended}
@@ -28,8 +28,8 @@ use Rattle.plain.specs.Sound.{operationSound, isStill, commandSound}
 use Rattle.plain.specs.Time.{Moment, last, current, onward, operationTick, insideTick, tick, ticks}
 use Rattle.plain.proofs.Tools.{by-test}
 use Rattle.plain.proofs.FigureLaws.{erase-some, chip-some, standby-most, one-sound}
-use Rattle.plain.proofs.Facts.{ProgramFacts, EraseFacts, BlockEraseFacts, programming, window, window-lowest, erasing, erase-suspended, inside-runs, chip-erasing}
-use Rattle.plain.proofs.FactsHold.{idle-holds, programming-holds, window-holds, erasing-holds, resting-holds, inside-holds, chip-holds}
+use Rattle.plain.proofs.Facts.{ProgramFacts, EraseFacts, BlockEraseFacts, programming, window, window-lowest, erasing, recovering, erase-suspended, inside-runs, chip-erasing}
+use Rattle.plain.proofs.FactsHold.{idle-holds, programming-holds, window-holds, erasing-holds, recovering-holds, resting-holds, inside-holds, chip-holds}
 use Rattle.plain.proofs.Register.{ran}
 
 -- ---- the same list with another block in hand, and another time left
@@ -61,6 +61,7 @@ tick-command p (Programming q) c e = ran p (operationTick p (Programming q)) c e
 tick-command p (ProgramSuspended q) c e = e
 tick-command p (Window x) c e = ran p (operationTick p (Window x)) c e
 tick-command p (Erasing x) c e = ran p (operationTick p (Erasing x)) c e
+tick-command p (Recovering r) c e = ran p (operationTick p (Recovering r)) c e
 tick-command p (EraseSuspended s) c e = inside-command p (s .erase) (s .inside) c e
 tick-command p (ChipErasing x) c e = ran p (operationTick p (ChipErasing x)) c e
 
@@ -132,6 +133,11 @@ module _ (p : Part) (bits : Protection) where
   tick-fit (Erasing e) s =
       let f = erasing p bits e s in
       erase-tick e Erasing (eraseTime p) (erase-some p) (f .erase .most-left) (f .erase .hand-listed) (erasing-any e s)
+  tick-fit (Recovering r) s =
+      let f = recovering p bits r s in
+      by-test Fit (last (r .left)) (λ h. resting-holds p bits (r .erase) (f .erase))
+      (λ h. let l = fewer (r .left) (recoveryTime p) h (f .most-left) in
+      recovering-holds p bits _ (record { erase = f .erase; some-left = l .0; most-left = l .1 }))
   tick-fit (EraseSuspended s) h = inside-tick (s .erase) (s .inside) h
   tick-fit (ChipErasing e) s =
       let f = chip-erasing p bits e s in
@@ -145,6 +151,7 @@ current-most p Still = standby-most p
 current-most p (Programs q) = omega arith
 current-most p (Waits e) = standby-most p
 current-most p (Erases e) = omega arith
+current-most p (Recovers r) = omega arith
 current-most p (ErasesChip e) = omega arith
 
 -- ---- n microseconds

@@ -9,7 +9,7 @@ use Rattle.plain.specs.declared.Program.{Program}
 use Rattle.plain.specs.declared.Inside.{Inside}
 use Rattle.plain.specs.declared.Inside.the-variants.{Nothing, Runs}
 use Rattle.plain.specs.declared.Operation.{Operation}
-use Rattle.plain.specs.declared.Operation.the-variants.{Idle, Programming, ProgramSuspended, Window, Erasing, EraseSuspended, ChipErasing}
+use Rattle.plain.specs.declared.Operation.the-variants.{Idle, Programming, ProgramSuspended, Window, Erasing, Recovering, EraseSuspended, ChipErasing}
 use Rattle.plain.specs.declared.Running.the-variants.{Programs}
 use Rattle.plain.specs.declared.Command.{Command}
 use Rattle.plain.specs.declared.Effect.{Effect}
@@ -36,6 +36,7 @@ program-busy p bits (Programming r) c l a w q e = refl
 program-busy p bits (ProgramSuspended r) c l a w q e = cc
 program-busy p bits (Window x) c l a w q e = cc
 program-busy p bits (Erasing x) c l a w q e = cc
+program-busy p bits (Recovering x) c l a w q e = cc
 program-busy p bits (EraseSuspended s) c l a w q e = inside-busy (s .inside) q _ e
 program-busy p bits (ChipErasing x) c l a w q e = cc
 
@@ -57,6 +58,7 @@ awake-lasts =
       idle = refl;
       window = λ e. refl;
       erasing = λ e. refl;
+      recovering = λ e n h. refl;
       chip-erasing = λ e. refl;
       resting = λ e. refl;
       programming = λ q l h. refl;

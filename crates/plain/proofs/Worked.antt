@@ -14,7 +14,7 @@ use Rattle.geometry.specs.Parts.{wordCount, blockCount, bankCount, unitOf, size
 use Rattle.geometry.specs.Asked.{refusalAsked, blockAsked}
 use Rattle.protection.specs.Protection.{protectedBy, unprotected}
 use Rattle.plain.specs.Refusals.{number}
-use Rattle.plain.specs.Figures.{programTime, windowTime, eraseTime, chipTime, runningCurrent, standbyCurrent, clockLimit}
+use Rattle.plain.specs.Figures.{programTime, windowTime, eraseTime, recoveryTime, chipTime, runningCurrent, standbyCurrent, clockLimit}
 use Rattle.plain.specs.Lent.{lent, isWhole}
 use Rattle.plain.specs.Programs.{writes, datum, firstWord, liesIn, blockWritten, bankWritten, dq7, raises, finished, debrisWords, debrisFor, cutOff}
 use Rattle.plain.specs.Operations.{runningInside, runningOf, suspensionOf}
@@ -89,7 +89,7 @@ record Computed : Type 0 where
 computed : Computed
 unfolding filled has pack setOf some seek programmed cells.raises erased littered cutShort
     blockCount bankCount unitOf sizeIn firstIn blockIn bankOf bankIn bankOfBlock refusalAsked blockAsked protectedBy unprotected
-    number programTime windowTime eraseTime chipTime runningCurrent standbyCurrent clockLimit
+    number programTime windowTime eraseTime recoveryTime chipTime runningCurrent standbyCurrent clockLimit
     writes datum firstWord liesIn blockWritten bankWritten dq7 raises finished debrisWords debrisFor cutOff
     runningInside runningOf suspensionOf
     meterSound programSound lowest insideSound

@@ -14,7 +14,7 @@ use Rattle.plain.specs.declared.Erase.{Erase}
 use Rattle.plain.specs.declared.Inside.{Inside}
 use Rattle.plain.specs.declared.Inside.the-variants.{Nothing, Runs}
 use Rattle.plain.specs.declared.Operation.{Operation}
-use Rattle.plain.specs.declared.Operation.the-variants.{Idle, Programming, ProgramSuspended, Window, Erasing, EraseSuspended, ChipErasing}
+use Rattle.plain.specs.declared.Operation.the-variants.{Idle, Programming, ProgramSuspended, Window, Erasing, Recovering, EraseSuspended, ChipErasing}
 use Rattle.plain.specs.declared.Suspension.{Suspension}
 use Rattle.plain.specs.declared.Suspension.the-variants.{Unsuspended, OfProgram, OfErase}
 use Rattle.plain.specs.declared.Command.{Command}
@@ -27,9 +27,9 @@ use Rattle.plain.specs.declared.Effect.the-variants.{Goes, Starts, Prote
 use Rattle.plain.specs.declared.Device.{Device}
 use Rattle.plain.specs.declared.Answer.{Answer}
 use Rattle.plain.specs.Choice.{if_then_else_}
-use Rattle.plain.specs.Figures.{programTime, windowTime, eraseTime, chipTime}
+use Rattle.plain.specs.Figures.{programTime, windowTime, eraseTime, recoveryTime, chipTime}
 use Rattle.plain.specs.Lent.{Lent}
-use Rattle.plain.specs.Record.{device, program, erase, suspended, eraseLeft, answer}
+use Rattle.plain.specs.Record.{device, program, erase, suspended, recovery, eraseLeft, answer}
 use Rattle.plain.specs.Programs.{writing, blockWritten, raises}
 use Rattle.plain.specs.Cycles.{isAt, is, firstUnlock, secondUnlock, isDyb}
 
@@ -201,22 +201,24 @@ inWindow p bits e a w =
     else if is w 0xB0 then Starts (EraseSuspended (suspended (eraseLeft e (eraseTime p)) Nothing))
     else Drops
 
--- past the window: "B0H at any address suspends a running block erase .. at once"; any other write is BUSY
-abbrev pub inErase : Erase → (w : ℕ) → Effect
-inErase e w = if is w 0xB0 then Starts (EraseSuspended (suspended e Nothing)) else Stays Busy
+-- past the window, document 02, request 1: "B0H during a running block erase starts 20 µs in which the block makes no progress";
+-- any other write is BUSY
+abbrev pub inErase : Part → Erase → (w : ℕ) → Effect
+inErase p e w = if is w 0xB0 then Starts (Recovering (recovery e (recoveryTime p))) else Stays Busy
 
 -- "During a chip erase, or a program inside a suspended erase, it is BUSY."
 unfoldable pub inSuspendedErase : Inside → Effect → Effect
 inSuspendedErase Nothing effect = effect
 inSuspendedErase (Runs q) effect = Stays Busy
 
--- document 02, request 9: "B0H during any program becomes BUSY."
+-- document 02, request 9: "B0H during any program becomes BUSY."; and request 1, in the recovery: "every write is BUSY"
 unfoldable pub written : Part → Protection → Operation → Command → Lent → (a w : ℕ) → Effect
 written p bits Idle c l a w = entered p bits Unsuspended c l a w
 written p bits (Programming q) c l a w = Stays Busy
 written p bits (ProgramSuspended q) c l a w = entered p bits (OfProgram q) c l a w
 written p bits (Window e) c l a w = inWindow p bits e a w
-written p bits (Erasing e) c l a w = inErase e w
+written p bits (Erasing e) c l a w = inErase p e w
+written p bits (Recovering r) c l a w = Stays Busy
 written p bits (EraseSuspended s) c l a w = inSuspendedErase (s .inside) (entered p bits (OfErase (s .erase)) c l a w)
 written p bits (ChipErasing e) c l a w = Stays Busy
 

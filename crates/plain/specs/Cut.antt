@@ -12,7 +12,7 @@ use Rattle.plain.specs.declared.Program.{Program}
 use Rattle.plain.specs.declared.Inside.{Inside}
 use Rattle.plain.specs.declared.Inside.the-variants.{Nothing, Runs}
 use Rattle.plain.specs.declared.Operation.{Operation}
-use Rattle.plain.specs.declared.Operation.the-variants.{Idle, Programming, ProgramSuspended, Window, Erasing, EraseSuspended, ChipErasing}
+use Rattle.plain.specs.declared.Operation.the-variants.{Idle, Programming, ProgramSuspended, Window, Erasing, Recovering, EraseSuspended, ChipErasing}
 use Rattle.plain.specs.declared.Command.the-variants.{Ground}
 use Rattle.plain.specs.declared.Device.{Device}
 use Rattle.plain.specs.declared.Place.{Place}
@@ -25,7 +25,8 @@ use Rattle.plain.specs.Lent.{Lent, withCells}
 use Rattle.plain.specs.Programs.{firstWord, debrisWords, cutOff}
 use Rattle.plain.specs.Record.{device}
 
--- "An operation has begun when its time left is below its full time; a window has not begun."
+-- "An operation has begun when its time left is below its full time; a window has not begun."; document 02, request 1: "a cut in
+-- the recovery follows the old debris rule", which goes by the block's time left
 abbrev pub begun : (left full : ℕ) → Bool
 begun left full = ltb left full
 
@@ -40,6 +41,7 @@ begunBlock p (Programming q) = Nowhere
 begunBlock p (ProgramSuspended q) = Nowhere
 begunBlock p (Window e) = Nowhere
 begunBlock p (Erasing e) = ifBegun (e .left) (eraseTime p) (e .hand)
+begunBlock p (Recovering r) = ifBegun (r .erase .left) (eraseTime p) (r .erase .hand)
 begunBlock p (EraseSuspended s) = ifBegun (s .erase .left) (eraseTime p) (s .erase .hand)
 begunBlock p (ChipErasing e) = ifBegun (e .left) (chipTime p) (e .hand)
 
@@ -56,6 +58,7 @@ begunProgram p (Programming q) = programBegun p q
 begunProgram p (ProgramSuspended q) = programBegun p q
 begunProgram p (Window e) = NoProgram
 begunProgram p (Erasing e) = NoProgram
+begunProgram p (Recovering r) = NoProgram
 begunProgram p (EraseSuspended s) = begunInside p (s .inside)
 begunProgram p (ChipErasing e) = NoProgram
 

@@ -8,7 +8,7 @@ use Rattle.geometry.specs.declared.Part.{Part}
 use Rattle.protection.specs.declared.Protection.{Protection}
 use Rattle.protection.specs.Protection.{protected}
 use Rattle.plain.specs.declared.Running.{Running}
-use Rattle.plain.specs.declared.Running.the-variants.{Still, Programs, Waits, Erases, ErasesChip}
+use Rattle.plain.specs.declared.Running.the-variants.{Still, Programs, Waits, Erases, Recovers, ErasesChip}
 use Rattle.plain.specs.declared.Device.{Device}
 use Rattle.plain.specs.Events.{Event}
 use Rattle.plain.specs.Lent.{Lent}
@@ -28,6 +28,7 @@ endsProtected p bits Still = false
 endsProtected p bits (Programs q) = last (q .left) && protected bits (blockWritten p (q .writes))
 endsProtected p bits (Waits e) = false
 endsProtected p bits (Erases e) = last (e .left) && protected bits (e .hand)
+endsProtected p bits (Recovers r) = false
 endsProtected p bits (ErasesChip e) = last (e .left) && protected bits (e .hand)
 
 -- does one of n microseconds?

@@ -14,6 +14,10 @@ windowTime p = 50
 unfoldable pub eraseTime : Part → ℕ
 eraseTime p = 700000
 
+-- document 02, request 1: "B0H during a running block erase starts 20 µs in which the block makes no progress"
+unfoldable pub recoveryTime : Part → ℕ
+recoveryTime p = 20
+
 -- "Chip erase has no window; .. 500,000 µs each"
 unfoldable pub chipTime : Part → ℕ
 chipTime p = 500000

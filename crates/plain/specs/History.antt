@@ -1,14 +1,13 @@
 -- The history of a run, told from its events and their answers alone: no record, no soundness and no cells are named here.
-use Prim.Native.Nat.{ℕ, zero, suc, _+_, _-_, _%_, min}
+use Prim.Native.Nat.{ℕ, zero, suc, _+_, _%_, min}
 use mathlib.Core.Bool.{false}
 use mathlib.Core.List.{List, [], _∷_}
-use lib.Bits.{bitAnd, bitOr}
 use lib.Dec.{ltb, eqb}
-use lib.ListN.{getD, drop}
+use lib.ListN.{drop}
 use Rattle.blocks.specs.declared.Blocks.{Blocks}
 use Rattle.blocks.specs.Blocks.{emptyOf, withOf, withoutOf, firstFrom}
 use Rattle.geometry.specs.declared.Part.{Part}
-use Rattle.geometry.specs.Parts.{blockCount, blockOf, bankOf, firstOf, sizeOf}
+use Rattle.geometry.specs.Parts.{blockCount, blockOf, bankOf, sizeOf}
 use Rattle.protection.specs.Protection.{bits, unprotected}
 use Rattle.plain.specs.declared.Refusal.{Refusal}
 use Rattle.plain.specs.declared.Refusal.the-variants.{Done, State, Cells, Address, Clock, Debris, Busy, Sequence, Bank, Protected, Suspended, Locked, Raise}
@@ -21,23 +20,18 @@ use Rattle.plain.specs.declared.Reading.the-variants.{Identity, Dybs}
 use Rattle.plain.specs.Choice.{if_then_else_}
 use Rattle.plain.specs.Cycles.{is, firstUnlock}
 use Rattle.plain.specs.Events.{Event, read, write, wait, cut, Turn}
-use Rattle.plain.specs.Figures.{programTime, windowTime, eraseTime, chipTime, runningCurrent, standbyCurrent}
-use Rattle.plain.specs.Lent.{Lent, cellAt}
-use Rattle.plain.specs.Programs.{writing, writes, datum, debrisFor}
+use Rattle.plain.specs.Figures.{programTime, windowTime, eraseTime, recoveryTime, chipTime, runningCurrent, standbyCurrent}
+use Rattle.plain.specs.Holds.{Fact, programDone, eraseDone, programCut, eraseCut}
+use Rattle.plain.specs.Programs.{writing}
 
--- what has come to pass
-pub data Fact : Type 0 where
-  programDone : Written → Fact
-  eraseDone : (block : ℕ) → Fact
-  programCut : Written → (debris : List ℕ) → Fact
-  eraseCut : (block : ℕ) → (debris : List ℕ) → Fact
-
--- what is under way: `gone` is the time in which it made progress
+-- what is under way: `gone` is the time in which it made progress. An erase that B0H has stopped past its window recovers first, and
+-- `over` is the time of that which is over: the block makes no progress in it
 pub data Doing : Type 0 where
   nothing : Doing
   programs : Written → (gone : ℕ) → Doing
   waits : (list : Blocks) → (block gone : ℕ) → Doing
   erases : (list : Blocks) → (block gone : ℕ) → Doing
+  recovers : (list : Blocks) → (block gone over : ℕ) → Doing
   wipes : (list : Blocks) → (block gone : ℕ) → Doing
   rests : (list : Blocks) → (block gone : ℕ) → Doing
   programsIn : Written → (programGone : ℕ) → (list : Blocks) → (block gone : ℕ) → Doing
@@ -77,12 +71,14 @@ kind Raise = dropped
 
 -- ---- a microsecond
 
--- "Running programs and erases draw 17,000 pC per µs .. Every other µs .. draws 15 pC"
+-- "Running programs and erases draw 17,000 pC per µs .. Every other µs .. draws 15 pC"; in a recovery "running current is drawn": so
+-- it is 17,000 pC for each microsecond in which something made progress or an erase recovered
 unfoldable pub draws : Part → Doing → ℕ
 draws p nothing = standbyCurrent p
 draws p (programs d g) = runningCurrent p
 draws p (waits l b g) = standbyCurrent p
 draws p (erases l b g) = runningCurrent p
+draws p (recovers l b g n) = runningCurrent p
 draws p (wipes l b g) = runningCurrent p
 draws p (rests l b g) = standbyCurrent p
 draws p (programsIn d pg l b g) = runningCurrent p
@@ -91,12 +87,14 @@ draws p (programsIn d pg l b g) = runningCurrent p
 abbrev pub turnsTo : Part → (Blocks → ℕ → ℕ → Doing) → Blocks → (b : ℕ) → Doing
 turnsTo p goes l b = if ltb (firstFrom l (suc b)) (blockCount p) then goes l (firstFrom l (suc b)) 0 else nothing
 
--- "A program is finished when the time in which it made progress .. makes its full time; an erase finishes block by block"
+-- "A program is finished when the time in which it made progress .. makes its full time; an erase finishes block by block"; none
+-- finishes in a recovery, which ends in suspension
 unfoldable pub goes : Part → Doing → Doing
 goes p nothing = nothing
 goes p (programs d g) = if eqb (suc g) (programTime p) then nothing else programs d (suc g)
 goes p (waits l b g) = if eqb (suc g) (windowTime p) then erases l b 0 else waits l b (suc g)
 goes p (erases l b g) = if eqb (suc g) (eraseTime p) then turnsTo p erases l b else erases l b (suc g)
+goes p (recovers l b g n) = if eqb (suc n) (recoveryTime p) then rests l b g else recovers l b g (suc n)
 goes p (wipes l b g) = if eqb (suc g) (chipTime p) then turnsTo p wipes l b else wipes l b (suc g)
 goes p (rests l b g) = rests l b g
 goes p (programsIn d pg l b g) = if eqb (suc pg) (programTime p) then rests l b g else programsIn d (suc pg) l b g
@@ -106,6 +104,7 @@ comes p nothing fs = fs
 comes p (programs d g) fs = if eqb (suc g) (programTime p) then programDone d ∷ fs else fs
 comes p (waits l b g) fs = fs
 comes p (erases l b g) fs = if eqb (suc g) (eraseTime p) then eraseDone b ∷ fs else fs
+comes p (recovers l b g n) fs = fs
 comes p (wipes l b g) fs = if eqb (suc g) (chipTime p) then eraseDone b ∷ fs else fs
 comes p (rests l b g) fs = fs
 comes p (programsIn d pg l b g) fs = if eqb (suc pg) (programTime p) then programDone d ∷ fs else fs
@@ -134,6 +133,7 @@ beginsProgram nothing n = programs n 0
 beginsProgram (programs d g) n = programs n 0
 beginsProgram (waits l b g) n = programs n 0
 beginsProgram (erases l b g) n = programs n 0
+beginsProgram (recovers l b g o) n = programs n 0
 beginsProgram (wipes l b g) n = programs n 0
 beginsProgram (rests l b g) n = programsIn n 0 l b g
 beginsProgram (programsIn d pg l b g) n = programsIn n 0 l b g
@@ -143,6 +143,7 @@ goesOn nothing = nothing
 goesOn (programs d g) = programs d g
 goesOn (waits l b g) = waits l b g
 goesOn (erases l b g) = erases l b g
+goesOn (recovers l b g n) = recovers l b g n
 goesOn (wipes l b g) = wipes l b g
 goesOn (rests l b g) = erases l b g
 goesOn (programsIn d pg l b g) = erases l b g
@@ -187,13 +188,15 @@ hears p h Ground a w =
 hears p h (Entering c) a w = hearsCycle p h c a w
 hears p h (Reads r) a w = enters h Ground
 
--- a write taken while an erase runs suspends it, or adds a block in the window
+-- a write taken while an erase runs suspends it, or adds a block in the window: in the window it is suspended at once, past it when it
+-- has recovered
 unfoldable pub wrote : Part → Told → Doing → (a w : ℕ) → Told
 wrote p h nothing a w = hears p h (h .command) a w
 wrote p h (programs d g) a w = h
 wrote p h (waits l b g) a w =
     if is w 0x30 then begins h (waits (withOf l (blockOf p a)) (min b (blockOf p a)) 0) else begins h (rests l b 0)
-wrote p h (erases l b g) a w = begins h (rests l b g)
+wrote p h (erases l b g) a w = begins h (recovers l b g 0)
+wrote p h (recovers l b g n) a w = h
 wrote p h (wipes l b g) a w = h
 wrote p h (rests l b g) a w = hears p h (h .command) a w
 wrote p h (programsIn d pg l b g) a w = h
@@ -206,6 +209,7 @@ gaveUp h nothing = enters h Ground
 gaveUp h (programs d g) = enters h Ground
 gaveUp h (waits l b g) = begins h nothing
 gaveUp h (erases l b g) = enters h Ground
+gaveUp h (recovers l b g n) = enters h Ground
 gaveUp h (wipes l b g) = enters h Ground
 gaveUp h (rests l b g) = enters h Ground
 gaveUp h (programsIn d pg l b g) = enters h Ground
@@ -216,6 +220,7 @@ turnedDown h nothing = enters h Ground
 turnedDown h (programs d g) = enters h Ground
 turnedDown h (waits l b g) = h
 turnedDown h (erases l b g) = enters h Ground
+turnedDown h (recovers l b g n) = enters h Ground
 turnedDown h (wipes l b g) = enters h Ground
 turnedDown h (rests l b g) = enters h Ground
 turnedDown h (programsIn d pg l b g) = enters h Ground
@@ -246,6 +251,7 @@ cuts p nothing debris fs = fs
 cuts p (programs d g) debris fs = programCuts g d debris fs
 cuts p (waits l b g) debris fs = fs
 cuts p (erases l b g) debris fs = eraseCuts g b debris fs
+cuts p (recovers l b g n) debris fs = eraseCuts g b debris fs
 cuts p (wipes l b g) debris fs = eraseCuts g b debris fs
 cuts p (rests l b g) debris fs = eraseCuts g b debris fs
 cuts p (programsIn d pg l b g) debris fs = programCuts pg d (drop (if ltb 0 g then sizeOf p b else 0) debris) (eraseCuts g b debris fs)
@@ -274,16 +280,3 @@ untold = telling Ground nothing emptyOf emptyOf [] 0 0
 
 abbrev pub history : Part → List Turn → Told
 history p ts = told p untold ts
-
--- ---- what a word holds: "worked out from the starting cells and the finished programs, finished erases and earlier cuts in
--- their order"
-
-unfoldable pub afterFact : Part → Fact → (x old : ℕ) → ℕ
-afterFact p (programDone d) x old = if writes d x then bitAnd old (datum d x) else old
-afterFact p (eraseDone b) x old = if eqb (blockOf p x) b then 0xFFFF else old
-afterFact p (programCut d debris) x old = if writes d x then bitAnd old (bitOr (datum d x) (debrisFor d debris x)) else old
-afterFact p (eraseCut b debris) x old = if eqb (blockOf p x) b then getD debris (x - firstOf p b) 0 else old
-
-unfoldable pub holds : Part → (start : Lent) → List Fact → (x : ℕ) → ℕ
-holds p start [] x = cellAt start x
-holds p start (f ∷ fs) x = afterFact p f x (holds p start fs x)

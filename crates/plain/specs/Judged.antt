@@ -13,14 +13,14 @@ use Rattle.plain.specs.declared.Erase.{Erase}
 use Rattle.plain.specs.declared.Inside.{Inside}
 use Rattle.plain.specs.declared.Inside.the-variants.{Nothing, Runs}
 use Rattle.plain.specs.declared.Operation.{Operation}
-use Rattle.plain.specs.declared.Operation.the-variants.{Idle, Programming, ProgramSuspended, Window, Erasing, EraseSuspended, ChipErasing}
+use Rattle.plain.specs.declared.Operation.the-variants.{Idle, Programming, ProgramSuspended, Window, Erasing, Recovering, EraseSuspended, ChipErasing}
 use Rattle.plain.specs.declared.Command.{Command}
 use Rattle.plain.specs.declared.Command.the-variants.{Ground, Entering, Reads}
 use Rattle.plain.specs.declared.Cycle.the-variants.{Unlock, Unlocked, ProgramData, EraseSetup, EraseUnlock, EraseUnlocked, DybData, PpbSetup, PpbSetting, PpbClearing}
 use Rattle.plain.specs.declared.Reading.the-variants.{Identity, Dybs}
 use Rattle.plain.specs.declared.Device.{Device}
 use Rattle.plain.specs.Programs.{writing}
-use Rattle.plain.specs.Record.{program, erase, suspended}
+use Rattle.plain.specs.Record.{program, erase, suspended, recovery}
 use Rattle.plain.specs.Rows.{metered, standing, only}
 use Rattle.plain.specs.Sound.{sound}
 
@@ -84,6 +84,14 @@ lists =
     ∷ edge (doing (Erasing (eraseOf (two 8 10) 10 1))) (doing (Erasing (eraseOf (two 8 10) 9 1)))
     ∷ []
 
+-- the list of an erase that recovers is a block erase's
+abbrev pub recoveries : List Edge
+recoveries =
+    edge (doing (Recovering (recovery (eraseOf (two 8 38) 38 1) 1))) (doing (Recovering (recovery (eraseOf (two 8 39) 8 1) 1)))
+    ∷ edge (doing (Recovering (recovery (eraseOf (two 8 10) 10 1) 1))) (doing (Recovering (recovery (eraseOf (two 8 10) 9 1) 1)))
+    ∷ edge (guarding (Recovering (recovery (eraseOf (two 8 9) 8 1) 1)) (bits (only 10) emptyOf false)) (guarding (Recovering (recovery (eraseOf (two 8 9) 8 1) 1)) (bits (only 9) emptyOf false))
+    ∷ []
+
 -- "in the window it is the lowest"; past it those listed below count as finished
 abbrev pub windows : List Edge
 windows =
@@ -91,7 +99,7 @@ windows =
     ∷ edge (doing (Erasing (eraseOf (two 8 9) 9 1))) (doing (Window (eraseOf (two 8 9) 9 1)))
     ∷ []
 
--- "time left is from 1 to the full time"; of a window "its own time left from 1 to 50"
+-- "time left is from 1 to the full time"; of a window "its own time left from 1 to 50"; "Recovery, 1 to 20 µs left"
 abbrev pub timed : (ℕ → Operation) → (full : ℕ) → (more : ℕ) → List Edge
 timed o full more = edge (doing (o 1)) (doing (o 0)) ∷ edge (doing (o full)) (doing (o more)) ∷ []
 
@@ -101,6 +109,8 @@ times =
     ++ timed (λ t. ProgramSuspended (programAt 64 t)) 6 7
     ++ timed (λ t. Window (eraseOf (only 8) 8 t)) 50 51
     ++ timed (λ t. Erasing (eraseOf (only 8) 8 t)) 700000 700001
+    ++ timed (λ t. Recovering (recovery (eraseOf (only 8) 8 1) t)) 20 21
+    ++ timed (λ t. Recovering (recovery (eraseOf (only 8) 8 t) 1)) 700000 700001
     ++ timed (λ t. EraseSuspended (suspended (eraseOf (only 8) 8 t) Nothing)) 700000 700001
     ++ timed (λ t. EraseSuspended (suspended (eraseOf (only 8) 8 1) (Runs (programAt 128 t)))) 6 7
     ++ timed (λ t. ChipErasing (eraseOf (only 8) 8 t)) 500000 500001
@@ -119,6 +129,7 @@ abbrev pub commands : List Edge
 commands =
     edge (doing (Programming (programAt 64 1))) (standing (Entering Unlock) (Programming (programAt 64 1)) freshBits)
     ∷ edge (standing (Reads (Identity 0)) Idle freshBits) (standing (Reads (Identity 0)) (Erasing (eraseOf (only 8) 8 1)) freshBits)
+    ∷ edge (doing (Recovering (recovery (eraseOf (only 8) 8 1) 1))) (standing (Reads Dybs) (Recovering (recovery (eraseOf (only 8) 8 1) 1)) freshBits)
     ∷ edge (resting (Reads Dybs) Nothing) (resting (Reads Dybs) (Runs (programAt 128 1)))
     ∷ edge (resting (Entering Unlocked) Nothing) (resting (Entering EraseSetup) Nothing)
     ∷ edge (resting (Entering ProgramData) Nothing) (resting (Entering DybData) Nothing)
@@ -131,7 +142,7 @@ commands =
     ∷ []
 
 abbrev pub edges : List Edge
-edges = meters ++ ranges ++ lists ++ windows ++ times ++ programsFree ++ commands
+edges = meters ++ ranges ++ lists ++ recoveries ++ windows ++ times ++ programsFree ++ commands
 
 -- within is sound, and beyond is not
 abbrev pub JudgedRight : Type 0

@@ -20,11 +20,13 @@ pub mod Bench
 pub mod CommandRulings
 pub mod OperationRulings
 pub mod RaiseRulings
+pub mod RecoveryRulings
 pub mod Rulings
 pub mod SuspendedProgram
 pub mod Stored
 pub mod Raise
 pub mod Judged
+pub mod Holds
 pub mod History
 pub mod Promises
 pub mod Worked

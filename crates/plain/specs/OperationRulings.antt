@@ -63,9 +63,10 @@ programInside =
     ++ gives 192 0 ++ gives 128 0xC4)
     [] 6 102000
 
--- no recovery time or least distance between resume and suspend
-abbrev suspendedAtOnce : Row
-suspendedAtOnce = runs (pausing 8 1 Nothing) blank (takes (write 0 0x30 ∷ write 0 0xB0 ∷ write 0 0x30 ∷ write 0 0xB0 ∷ []) ++ gives 64 0xC4) [] 0 0
+-- no least distance between resume and suspend: B0H is taken as soon as 30H is, and again once it has recovered
+abbrev suspendedAnew : Row
+suspendedAnew =
+    runs (pausing 8 1 Nothing) blank (takes (write 0 0x30 ∷ write 0 0xB0 ∷ wait 20 ∷ write 0 0x30 ∷ write 0 0xB0 ∷ wait 20 ∷ []) ++ gives 64 0xC4) [] 40 680000
 
 -- every write to a program inside a suspended erase is BUSY, B0H and 30H too
 abbrev insideBusy : Row
@@ -175,6 +176,6 @@ chipUnbegun = runs (standing Ground (ChipErasing (erase (withOf (only 0) 1) 1 50
 
 abbrev pub operationRulings : List Row
 operationRulings =
-    listedAgain ∷ lowerBlockFirst ∷ windowOf50 ∷ refusedBlock ∷ suspendedInWindow ∷ suspendedUnbegun ∷ programInside ∷ suspendedAtOnce
+    listedAgain ∷ lowerBlockFirst ∷ windowOf50 ∷ refusedBlock ∷ suspendedInWindow ∷ suspendedUnbegun ∷ programInside ∷ suspendedAnew
     ∷ insideBusy ∷ longWait ∷ restOfWait ∷ changesNothing ∷ restingToggles ∷ finishedRests ∷ finishedFlips ∷ restingProgram ∷ dq7OfData ∷ insideOwnBank ∷ insideOtherBank
     ∷ dq2OffList ∷ chipStatus ∷ betweenBlocks ∷ restingBegun ∷ debrisFromFirst ∷ oldAtCut ∷ programsDebris ∷ chipCut ∷ chipUnbegun ∷ []

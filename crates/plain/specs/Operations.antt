@@ -2,9 +2,9 @@
 use Rattle.plain.specs.declared.Inside.{Inside}
 use Rattle.plain.specs.declared.Inside.the-variants.{Nothing, Runs}
 use Rattle.plain.specs.declared.Operation.{Operation}
-use Rattle.plain.specs.declared.Operation.the-variants.{Idle, Programming, ProgramSuspended, Window, Erasing, EraseSuspended, ChipErasing}
+use Rattle.plain.specs.declared.Operation.the-variants.{Idle, Programming, ProgramSuspended, Window, Erasing, Recovering, EraseSuspended, ChipErasing}
 use Rattle.plain.specs.declared.Running.{Running}
-use Rattle.plain.specs.declared.Running.the-variants.{Still, Programs, Waits, Erases, ErasesChip}
+use Rattle.plain.specs.declared.Running.the-variants.{Still, Programs, Waits, Erases, Recovers, ErasesChip}
 use Rattle.plain.specs.declared.Suspension.{Suspension}
 use Rattle.plain.specs.declared.Suspension.the-variants.{Unsuspended, OfProgram, OfErase}
 
@@ -19,6 +19,7 @@ runningOf (Programming q) = Programs q
 runningOf (ProgramSuspended q) = Still
 runningOf (Window e) = Waits e
 runningOf (Erasing e) = Erases e
+runningOf (Recovering r) = Recovers r
 runningOf (EraseSuspended s) = runningInside (s .inside)
 runningOf (ChipErasing e) = ErasesChip e
 
@@ -29,5 +30,6 @@ suspensionOf (Programming q) = Unsuspended
 suspensionOf (ProgramSuspended q) = OfProgram q
 suspensionOf (Window e) = Unsuspended
 suspensionOf (Erasing e) = Unsuspended
+suspensionOf (Recovering r) = Unsuspended
 suspensionOf (EraseSuspended s) = OfErase (s .erase)
 suspensionOf (ChipErasing e) = Unsuspended

@@ -19,7 +19,8 @@ use Rattle.plain.specs.declared.Command.the-variants.{Ground}
 use Rattle.plain.specs.declared.Device.{Device}
 use Rattle.plain.specs.Cut.{debrisNeeded}
 use Rattle.plain.specs.Events.{Event, cut}
-use Rattle.plain.specs.History.{Fact, programDone, eraseDone, programCut, eraseCut, Doing, programs, erases, wipes, rests, programsIn, Told, history, holds}
+use Rattle.plain.specs.History.{Doing, programs, erases, recovers, wipes, rests, programsIn, Told, history}
+use Rattle.plain.specs.Holds.{Fact, programDone, eraseDone, programCut, eraseCut, holds}
 use Rattle.plain.specs.Machine.{step, run}
 use Rattle.plain.specs.Lent.{Lent, cellAt}
 use Rattle.plain.specs.Programs.{writes, datum}
@@ -32,9 +33,10 @@ pub data ProgramBegun : Doing → Written → Type 0 where
   running : {d : Written} {g : ℕ} → 0 < g → ProgramBegun (programs d g) d
   inside : {d : Written} {g b eg : ℕ} {l : Blocks} → 0 < g → ProgramBegun (programsIn d g l b eg) d
 
--- an erase of the block had begun and was not finished
+-- an erase of the block had begun and was not finished: it made progress, and not only drew current
 pub data EraseBegun : Doing → (block : ℕ) → Type 0 where
   running : {l : Blocks} {b g : ℕ} → 0 < g → EraseBegun (erases l b g) b
+  recovering : {l : Blocks} {b g n : ℕ} → 0 < g → EraseBegun (recovers l b g n) b
   wiping : {l : Blocks} {b g : ℕ} → 0 < g → EraseBegun (wipes l b g) b
   resting : {l : Blocks} {b g : ℕ} → 0 < g → EraseBegun (rests l b g) b
   around : {d : Written} {pg b g : ℕ} {l : Blocks} → 0 < g → EraseBegun (programsIn d pg l b g) b

@@ -11,6 +11,7 @@ use Rattle.plain.specs.declared.Program.{Program}
 use Rattle.plain.specs.declared.Erase.{Erase}
 use Rattle.plain.specs.declared.Inside.{Inside}
 use Rattle.plain.specs.declared.SuspendedErase.{SuspendedErase}
+use Rattle.plain.specs.declared.Recovery.{Recovery}
 use Rattle.plain.specs.declared.Operation.{Operation}
 use Rattle.plain.specs.declared.Operation.the-variants.{Idle}
 use Rattle.plain.specs.declared.Command.{Command}
@@ -29,6 +30,9 @@ erase list h l six two = record { list = list; hand = h; left = l; dq6 = six; dq
 
 abbrev pub suspended : Erase → Inside → SuspendedErase
 suspended e i = record { erase = e; inside = i }
+
+abbrev pub recovery : Erase → (left : ℕ) → Recovery
+recovery e l = record { erase = e; left = l }
 
 -- the same with another time left
 abbrev pub programLeft : Program → ℕ → Program

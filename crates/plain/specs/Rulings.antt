@@ -18,6 +18,7 @@ use Rattle.plain.specs.OperationRulings.{operationRulings}
 use Rattle.plain.specs.Programs.{writing}
 use Rattle.plain.specs.RaiseRulings.{raiseRulings}
 use Rattle.plain.specs.Record.{program, erase, suspended, fresh}
+use Rattle.plain.specs.RecoveryRulings.{recoveryRulings}
 use Rattle.plain.specs.Rows.{Row, lookups, runs, takes, waits, gives, refuses, lies, past, holds, blank, but, unlock, enters, programOf, eraseOf, dybOf, dybGives, suspendedThird, metered, standing, guarded, only, resting}
 
 -- a program at 100 (block 8) in its last microsecond
@@ -182,4 +183,4 @@ rulings =
     ∷ identityBank4 ∷ ppbBlock270 ∷ progressAtClock0 ∷ chargeAtBound ∷ chargePastBound ∷ clockPastLimit ∷ chipListSmaller ∷ finishedNotBlank
     ∷ halfEnteredInside ∷ pastA0Suspended ∷ past48Suspended ∷ addressKeepsCommand ∷ sequenceBeginsNothing ∷ sequenceResumesNothing
     ∷ sequenceEndsReading ∷ windowF0 ∷ busyInEveryBank ∷ clockWholeWait ∷ protectedProgram ∷ refusedRead ∷ suspendedStands
-    ∷ commandRulings ++ raiseRulings ++ operationRulings
+    ∷ commandRulings ++ raiseRulings ++ operationRulings ++ recoveryRulings

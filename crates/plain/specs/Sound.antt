@@ -14,9 +14,9 @@ use Rattle.plain.specs.declared.Erase.{Erase}
 use Rattle.plain.specs.declared.Inside.{Inside}
 use Rattle.plain.specs.declared.Inside.the-variants.{Nothing, Runs}
 use Rattle.plain.specs.declared.Operation.{Operation}
-use Rattle.plain.specs.declared.Operation.the-variants.{Idle, Programming, ProgramSuspended, Window, Erasing, EraseSuspended, ChipErasing}
+use Rattle.plain.specs.declared.Operation.the-variants.{Idle, Programming, ProgramSuspended, Window, Erasing, Recovering, EraseSuspended, ChipErasing}
 use Rattle.plain.specs.declared.Running.{Running}
-use Rattle.plain.specs.declared.Running.the-variants.{Still, Programs, Waits, Erases, ErasesChip}
+use Rattle.plain.specs.declared.Running.the-variants.{Still, Programs, Waits, Erases, Recovers, ErasesChip}
 use Rattle.plain.specs.declared.Suspension.{Suspension}
 use Rattle.plain.specs.declared.Suspension.the-variants.{Unsuspended, OfProgram, OfErase}
 use Rattle.plain.specs.declared.Command.{Command}
@@ -27,7 +27,7 @@ use Rattle.plain.specs.declared.Reading.{Reading}
 use Rattle.plain.specs.declared.Reading.the-variants.{Identity, Dybs}
 use Rattle.plain.specs.declared.Device.{Device}
 use Rattle.plain.specs.Choice.{if_then_else_}
-use Rattle.plain.specs.Figures.{programTime, windowTime, eraseTime, chipTime, runningCurrent, clockLimit}
+use Rattle.plain.specs.Figures.{programTime, windowTime, eraseTime, recoveryTime, chipTime, runningCurrent, clockLimit}
 use Rattle.plain.specs.Operations.{runningOf, suspensionOf}
 use Rattle.plain.specs.Programs.{liesIn, blockWritten}
 
@@ -75,16 +75,21 @@ unfoldable pub insideSound : Part → Protection → Erase → Inside → Bool
 insideSound p bits e Nothing = true
 insideSound p bits e (Runs q) = programSound p bits q && not (has (e .list) (blockWritten p (q .writes)))
 
+-- a block erase past its window: "time left is from 1 to the full time"
+abbrev pub blockEraseSound : Part → Protection → Erase → Bool
+blockEraseSound p bits e = listSound p bits e && timeSound (e .left) (eraseTime p)
+
 -- "a window belongs to a running block erase with full time left, its own time left from 1 to 50; .. only a block erase or a
--- program may be suspended; a second operation is only a program inside a suspended erase, and that program runs"
+-- program may be suspended; a second operation is only a program inside a suspended erase, and that program runs"; document 02,
+-- request 1: "Recovery, 1 to 20 µs left, belongs to a running block erase past its window."
 unfoldable pub operationSound : Part → Protection → Operation → Bool
 operationSound p bits Idle = true
 operationSound p bits (Programming q) = programSound p bits q
 operationSound p bits (ProgramSuspended q) = programSound p bits q
 operationSound p bits (Window e) = listSound p bits e && (lowest e && timeSound (e .left) (windowTime p))
-operationSound p bits (Erasing e) = listSound p bits e && timeSound (e .left) (eraseTime p)
-operationSound p bits (EraseSuspended s) =
-    (listSound p bits (s .erase) && timeSound (s .erase .left) (eraseTime p)) && insideSound p bits (s .erase) (s .inside)
+operationSound p bits (Erasing e) = blockEraseSound p bits e
+operationSound p bits (Recovering r) = blockEraseSound p bits (r .erase) && timeSound (r .left) (recoveryTime p)
+operationSound p bits (EraseSuspended s) = blockEraseSound p bits (s .erase) && insideSound p bits (s .erase) (s .inside)
 operationSound p bits (ChipErasing e) = chipListSound p bits e && timeSound (e .left) (chipTime p)
 
 -- "block numbers are in range": of 68H's block, and of the bank of identity reading
@@ -139,6 +144,7 @@ isStill Still = true
 isStill (Programs q) = false
 isStill (Waits e) = false
 isStill (Erases e) = false
+isStill (Recovers r) = false
 isStill (ErasesChip e) = false
 
 unfoldable pub commandSound : Part → Operation → Command → Bool

@@ -12,9 +12,9 @@ use Rattle.plain.specs.declared.Inside.{Inside}
 use Rattle.plain.specs.declared.Inside.the-variants.{Nothing, Runs}
 use Rattle.plain.specs.declared.SuspendedErase.{SuspendedErase}
 use Rattle.plain.specs.declared.Operation.{Operation}
-use Rattle.plain.specs.declared.Operation.the-variants.{Idle, Programming, ProgramSuspended, Window, Erasing, EraseSuspended, ChipErasing}
+use Rattle.plain.specs.declared.Operation.the-variants.{Idle, Programming, ProgramSuspended, Window, Erasing, Recovering, EraseSuspended, ChipErasing}
 use Rattle.plain.specs.declared.Running.{Running}
-use Rattle.plain.specs.declared.Running.the-variants.{Still, Programs, Waits, Erases, ErasesChip}
+use Rattle.plain.specs.declared.Running.the-variants.{Still, Programs, Waits, Erases, Recovers, ErasesChip}
 use Rattle.plain.specs.declared.Suspension.{Suspension}
 use Rattle.plain.specs.declared.Suspension.the-variants.{Unsuspended, OfProgram, OfErase}
 use Rattle.plain.specs.declared.Command.{Command}
@@ -26,7 +26,7 @@ use Rattle.plain.specs.Choice.{if_then_else_}
 use Rattle.plain.specs.Lent.{Lent, cellAt}
 use Rattle.plain.specs.Operations.{runningOf, suspensionOf}
 use Rattle.plain.specs.Programs.{blockWritten, bankWritten, dq7}
-use Rattle.plain.specs.Record.{program, erase, suspended}
+use Rattle.plain.specs.Record.{program, erase, suspended, recovery}
 
 -- ---- status words
 
@@ -35,12 +35,14 @@ abbrev pub statusWord : (dq7 dq6 dq3 dq2 : Bool) → ℕ
 statusWord seven six three two =
     (if seven then 0x80 else 0) + ((if six then 0x40 else 0) + ((if three then 0x08 else 0) + (if two then 0x04 else 0)))
 
--- "A read in the bank of a running operation (window included; any bank in a chip erase) gives a status word."
+-- "A read in the bank of a running operation (window included; any bank in a chip erase) gives a status word."; document 02,
+-- request 1, in the recovery: "reads in that bank give the erase status .. Other banks read at once."
 unfoldable pub polls : Part → Running → (a : ℕ) → Bool
 polls p Still a = false
 polls p (Programs q) a = eqb (bankOf p a) (bankWritten p (q .writes))
 polls p (Waits e) a = eqb (bankOf p a) (bankOfBlock p (e .hand))
 polls p (Erases e) a = eqb (bankOf p a) (bankOfBlock p (e .hand))
+polls p (Recovers r) a = eqb (bankOf p a) (bankOfBlock p (r .erase .hand))
 polls p (ErasesChip e) a = true
 
 -- "Each such read flips DQ6 and shows the new value."
@@ -62,6 +64,7 @@ polled p (Programming q) a = Programming (programPolled q)
 polled p (ProgramSuspended q) a = ProgramSuspended q
 polled p (Window e) a = Window (erasePolled p e a)
 polled p (Erasing e) a = Erasing (erasePolled p e a)
+polled p (Recovering r) a = Recovering (recovery (erasePolled p (r .erase) a) (r .left))
 polled p (EraseSuspended s) a = EraseSuspended (suspended (s .erase) (insidePolled (s .inside)))
 polled p (ChipErasing e) a = ChipErasing (erasePolled p e a)
 
@@ -71,6 +74,7 @@ status Still = 0
 status (Programs q) = statusWord (dq7 (q .writes)) (q .dq6) false true
 status (Waits e) = statusWord false (e .dq6) false (e .dq2)
 status (Erases e) = statusWord false (e .dq6) true (e .dq2)
+status (Recovers r) = statusWord false (r .erase .dq6) true (r .erase .dq2)
 status (ErasesChip e) = statusWord false (e .dq6) true (e .dq2)
 
 -- ---- "After that come identity and 58H reading"
@@ -128,6 +132,7 @@ rested (Programming q) = Programming q
 rested (ProgramSuspended q) = ProgramSuspended q
 rested (Window e) = Window e
 rested (Erasing e) = Erasing e
+rested (Recovering r) = Recovering r
 rested (EraseSuspended s) = EraseSuspended (restFlipped s)
 rested (ChipErasing e) = ChipErasing e
 

@@ -12,15 +12,15 @@ use Rattle.plain.specs.declared.Erase.{Erase}
 use Rattle.plain.specs.declared.Inside.{Inside}
 use Rattle.plain.specs.declared.Inside.the-variants.{Nothing, Runs}
 use Rattle.plain.specs.declared.Operation.{Operation}
-use Rattle.plain.specs.declared.Operation.the-variants.{Idle, Programming, ProgramSuspended, Window, Erasing, EraseSuspended, ChipErasing}
+use Rattle.plain.specs.declared.Operation.the-variants.{Idle, Programming, ProgramSuspended, Window, Erasing, Recovering, EraseSuspended, ChipErasing}
 use Rattle.plain.specs.declared.Running.{Running}
-use Rattle.plain.specs.declared.Running.the-variants.{Still, Programs, Waits, Erases, ErasesChip}
+use Rattle.plain.specs.declared.Running.the-variants.{Still, Programs, Waits, Erases, Recovers, ErasesChip}
 use Rattle.plain.specs.Choice.{if_then_else_}
 use Rattle.plain.specs.Figures.{eraseTime, chipTime, runningCurrent, standbyCurrent}
 use Rattle.plain.specs.Lent.{Lent, withCells}
 use Rattle.plain.specs.Operations.{runningOf}
 use Rattle.plain.specs.Programs.{finished}
-use Rattle.plain.specs.Record.{programLeft, eraseLeft, erase, suspended}
+use Rattle.plain.specs.Record.{programLeft, eraseLeft, erase, suspended, recovery}
 
 -- what time changes: the meter, the operation and what is lent
 pub record Moment : Type 0 where
@@ -35,13 +35,14 @@ moment m o l = record { meter = m; operation = o; lent = l }
 abbrev pub last : (left : ℕ) → Bool
 last left = leb left 1
 
--- ---- what a microsecond draws
+-- ---- what a microsecond draws: in a recovery, document 02, request 1, "running current is drawn"
 
 unfoldable pub current : Part → Running → ℕ
 current p Still = standbyCurrent p
 current p (Programs q) = runningCurrent p
 current p (Waits e) = standbyCurrent p
 current p (Erases e) = runningCurrent p
+current p (Recovers r) = runningCurrent p
 current p (ErasesChip e) = runningCurrent p
 
 -- ---- what it does to the operation
@@ -60,12 +61,15 @@ insideTick e (Runs q) =
     if last (q .left) then EraseSuspended (suspended e Nothing)
     else EraseSuspended (suspended e (Runs (programLeft q (q .left - 1))))
 
+-- in a recovery "the block makes no progress": its time left stands, and it is suspended when the recovery is over
 unfoldable pub operationTick : Part → Operation → Operation
 operationTick p Idle = Idle
 operationTick p (Programming q) = if last (q .left) then Idle else Programming (programLeft q (q .left - 1))
 operationTick p (ProgramSuspended q) = ProgramSuspended q
 operationTick p (Window e) = if last (e .left) then Erasing (eraseLeft e (eraseTime p)) else Window (eraseLeft e (e .left - 1))
 operationTick p (Erasing e) = if last (e .left) then onward p Erasing (eraseTime p) e else Erasing (eraseLeft e (e .left - 1))
+operationTick p (Recovering r) =
+    if last (r .left) then EraseSuspended (suspended (r .erase) Nothing) else Recovering (recovery (r .erase) (r .left - 1))
 operationTick p (EraseSuspended s) = insideTick (s .erase) (s .inside)
 operationTick p (ChipErasing e) =
     if last (e .left) then onward p ChipErasing (chipTime p) e else ChipErasing (eraseLeft e (e .left - 1))
@@ -80,6 +84,7 @@ lentTick p Still l = l
 lentTick p (Programs q) l = if last (q .left) then finished (q .writes) l else l
 lentTick p (Waits e) l = l
 lentTick p (Erases e) l = if last (e .left) then eraseFinished p e l else l
+lentTick p (Recovers r) l = l
 lentTick p (ErasesChip e) l = if last (e .left) then eraseFinished p e l else l
 
 -- ---- one microsecond, and n of them

@@ -11,7 +11,8 @@ use Rattle.plain.specs.Lent.{lent, cellAt}
 use Rattle.plain.specs.Programs.{writing}
 use Rattle.plain.specs.Record.{fresh}
 use Rattle.plain.specs.Machine.{Ran, run}
-use Rattle.plain.specs.History.{Fact, programDone, eraseDone, programCut, eraseCut, Told, history}
+use Rattle.plain.specs.History.{Told, history}
+use Rattle.plain.specs.Holds.{Fact, programDone, eraseDone, programCut, eraseCut}
 
 -- the refusals in order, the facts (the latest first), the words at some addresses, clock and charge
 pub record Tale : Type 0 where
@@ -58,11 +59,29 @@ busy =
     work (programOf 100 0x1234 ++ (wait 3 ∷ write 0 0xF0 ∷ write 0 0xB0 ∷ wait 3 ∷ [])) (100 ∷ [])
     (tale (four ++ (0 ∷ 6 ∷ 6 ∷ 0 ∷ [])) (programDone (writing 100 0x1234) ∷ []) (0x1234 ∷ []) 6 102000)
 
--- a suspended and resumed erase counts only its progress: 100,000 and 600,000 µs
+-- a suspended and resumed erase counts only its progress: 100,000 and 600,000 µs, and not the 20 µs of its recovery
 abbrev resumed : Work
 resumed =
     work (programOf 64 0 ++ (wait 6 ∷ []) ++ eraseOf 64 ++ (wait 100050 ∷ write 0 0xB0 ∷ wait 1000000 ∷ write 0 0x30 ∷ wait 599999 ∷ read 64 ∷ wait 1 ∷ [])) (64 ∷ [])
-    (tale (four ++ (0 ∷ []) ++ six ++ (0 ∷ 0 ∷ 0 ∷ 0 ∷ 0 ∷ 0 ∷ 0 ∷ [])) (eraseDone 8 ∷ programDone (writing 64 0) ∷ []) (0xFFFF ∷ []) 1700056 11915102750)
+    (tale (four ++ (0 ∷ []) ++ six ++ (0 ∷ 0 ∷ 0 ∷ 0 ∷ 0 ∷ 0 ∷ 0 ∷ [])) (eraseDone 8 ∷ programDone (writing 64 0) ∷ []) (0xFFFF ∷ []) 1700056 11915442450)
+
+-- stopped 1 µs before its end it does not end in the recovery, which draws 340,000 pC; resumed, it ends after that 1 µs
+abbrev stopped : Work
+stopped =
+    work (programOf 64 0 ++ (wait 6 ∷ []) ++ eraseOf 64 ++ (wait 700049 ∷ write 0 0xB0 ∷ wait 1000 ∷ write 0 0x30 ∷ wait 1 ∷ [])) (64 ∷ [])
+    (tale (four ++ (0 ∷ []) ++ six ++ (0 ∷ 0 ∷ 0 ∷ 0 ∷ 0 ∷ [])) (eraseDone 8 ∷ programDone (writing 64 0) ∷ []) (0xFFFF ∷ []) 701056 11900457450)
+
+-- a cut in the recovery, after 5 µs of it: with 1 µs of progress the erase had begun ..
+abbrev cutRecovering : Work
+cutRecovering =
+    work (programOf 64 0 ++ (wait 6 ∷ []) ++ eraseOf 64 ++ (wait 51 ∷ write 0 0xB0 ∷ wait 5 ∷ cut (replicate 64 0xAAAA) ∷ [])) (64 ∷ [])
+    (tale (four ++ (0 ∷ []) ++ six ++ (0 ∷ 0 ∷ 0 ∷ 0 ∷ [])) (eraseCut 8 (replicate 64 0xAAAA) ∷ programDone (writing 64 0) ∷ []) (0xAAAA ∷ []) 62 204750)
+
+-- .. and with none it had not, though it drew the running current for those 5 µs
+abbrev cutUnbegun : Work
+cutUnbegun =
+    work (programOf 64 0 ++ (wait 6 ∷ []) ++ eraseOf 64 ++ (wait 50 ∷ write 0 0xB0 ∷ wait 5 ∷ cut [] ∷ [])) (64 ∷ [])
+    (tale (four ++ (0 ∷ []) ++ six ++ (0 ∷ 0 ∷ 0 ∷ 0 ∷ [])) (programDone (writing 64 0) ∷ []) (0 ∷ []) 61 187750)
 
 -- a window dropped by SEQUENCE never finishes
 abbrev abandoned : Work
@@ -84,7 +103,7 @@ abbrev pub debris : List ℕ
 debris = replicate 63 0xAAAA ++ (0xBBBB ∷ 0xFF00 ∷ [])
 
 -- 5678H at 300 is finished. Block 0 gets its PPB, and an erase of it is refused. The erase of block 8 (words 64 to 127) runs for
--- 300,000 µs and is suspended for 1,000; 1234H at 200 runs inside it for 5 µs. Then the power is cut
+-- 300,000 µs and is stopped for 1,000, of which 20 are its recovery; 1234H at 200 runs inside it for 5 µs. Then the power is cut
 abbrev pub flat : List Event
 flat =
     programOf 300 0x5678 ++ (wait 6 ∷ []) ++ enters 0x60 ++ (write 0 0x68 ∷ write 0 0x48 ∷ []) ++ eraseOf 0 ++ eraseOf 64
@@ -100,7 +119,7 @@ abbrev pub cutFlat : Work
 cutFlat =
     work flat looked
     (tale flatRefusals (programCut (writing 200 0x1234) (0xFF00 ∷ []) ∷ eraseCut 8 debris ∷ programDone (writing 300 0x5678) ∷ [])
-    (0xFFFF ∷ 0xAAAA ∷ 0xAAAA ∷ 0xBBBB ∷ 0xFFFF ∷ 0xFFFF ∷ 0xFF34 ∷ 0xFFFF ∷ 0x5678 ∷ []) 301061 5100202750)
+    (0xFFFF ∷ 0xAAAA ∷ 0xAAAA ∷ 0xBBBB ∷ 0xFFFF ∷ 0xFFFF ∷ 0xFF34 ∷ 0xFFFF ∷ 0x5678 ∷ []) 301061 5100542450)
 
 -- after that cut the PPB still protects block 0, a further program is finished, and a second cut needs no debris
 abbrev secondCut : Work
@@ -108,10 +127,10 @@ secondCut =
     work (flat ++ eraseOf 0 ++ programOf 201 0x0F0F ++ (wait 6 ∷ cut [] ∷ [])) looked
     (tale (flatRefusals ++ (0 ∷ 0 ∷ 0 ∷ 0 ∷ 0 ∷ 9 ∷ []) ++ four ++ (0 ∷ 0 ∷ []))
     (programDone (writing 201 0x0F0F) ∷ programCut (writing 200 0x1234) (0xFF00 ∷ []) ∷ eraseCut 8 debris ∷ programDone (writing 300 0x5678) ∷ [])
-    (0xFFFF ∷ 0xAAAA ∷ 0xAAAA ∷ 0xBBBB ∷ 0xFFFF ∷ 0xFFFF ∷ 0xFF34 ∷ 0x0F0F ∷ 0x5678 ∷ []) 301067 5100304750)
+    (0xFFFF ∷ 0xAAAA ∷ 0xAAAA ∷ 0xBBBB ∷ 0xFFFF ∷ 0xFFFF ∷ 0xFF34 ∷ 0x0F0F ∷ 0x5678 ∷ []) 301067 5100644450)
 
 abbrev pub tales : List Work
-tales = finished ∷ busy ∷ resumed ∷ abandoned ∷ chipOver ∷ cutFlat ∷ secondCut ∷ []
+tales = finished ∷ busy ∷ resumed ∷ stopped ∷ cutRecovering ∷ cutUnbegun ∷ abandoned ∷ chipOver ∷ cutFlat ∷ secondCut ∷ []
 
 -- each tells what is stated
 abbrev pub AsTold : List Work → Type 0

@@ -1,6 +1,6 @@
 // The figures of document 01, by part: microseconds, and picocoulombs a microsecond. All code takes them from here.
 ghost use mathlib.Core.Path.{_≡_};
-ghost use Rattle.plain.specs.Figures.{programTime, windowTime, eraseTime, chipTime, runningCurrent, standbyCurrent, clockLimit};
+ghost use Rattle.plain.specs.Figures.{programTime, windowTime, eraseTime, recoveryTime, chipTime, runningCurrent, standbyCurrent, clockLimit};
 use geometry::Part;
 
 pub fn program_time(part: Part) -> u64
@@ -19,6 +19,12 @@ pub fn erase_time(part: Part) -> u64
     ensures { λ r. ⌜ r ≡ eraseTime part ⌝ }
 {
     700000
+}
+
+pub fn recovery_time(part: Part) -> u64
+    ensures { λ r. ⌜ r ≡ recoveryTime part ⌝ }
+{
+    20
 }
 
 pub fn chip_time(part: Part) -> u64

@@ -55,14 +55,21 @@ pub struct SuspendedErase {
     pub inside: Inside,
 }
 
-// What runs or is suspended. In the window `left` is the window's time: the block in hand has its full time yet. A suspended
-// program is held by stored records alone: nothing suspends one any more.
+// A block erase that B0H has stopped past its window: it is suspended when the microseconds left of its recovery are over.
+pub struct Recovery {
+    pub erase: Erase,
+    pub left: u64,
+}
+
+// What runs or is suspended. A block erase that runs is in one of three phases: in its window (there `left` is the window's time,
+// and the block in hand has its full time yet), erasing, or recovering. A suspended program is held by stored records alone.
 pub enum Operation {
     Idle,
     Programming(Program),
     ProgramSuspended(Program),
     Window(Erase),
     Erasing(Erase),
+    Recovering(Recovery),
     EraseSuspended(SuspendedErase),
     ChipErasing(Erase),
 }
@@ -73,6 +80,7 @@ pub enum Running {
     Programs(Program),
     Waits(Erase),
     Erases(Erase),
+    Recovers(Recovery),
     ErasesChip(Erase),
 }
 

@@ -50,6 +50,7 @@ pub fn rested(operation: Operation) -> Operation
         Operation::ProgramSuspended(_) => operation,
         Operation::Window(_) => operation,
         Operation::Erasing(_) => operation,
+        Operation::Recovering(_) => operation,
         Operation::EraseSuspended(suspended) => Operation::EraseSuspended(rest_flipped(suspended)),
         Operation::ChipErasing(_) => operation,
     }

@@ -14,9 +14,10 @@ use plain::Effect;
 use plain::Erase;
 use plain::Inside;
 use plain::Operation;
+use plain::Recovery;
 use plain::Refusal;
-use plain::SuspendedErase;
 use plain::Suspension;
+use plain::figures;
 use protection::Protection;
 use window::in_window;
 
@@ -48,7 +49,8 @@ pub fn written(
             entered(part, bits, suspension, command, cells, address, word)
         }
         Operation::Window(erase) => in_window(part, bits, erase, address, word),
-        Operation::Erasing(erase) => in_erase(erase, word),
+        Operation::Erasing(erase) => in_erase(part, erase, word),
+        Operation::Recovering(_) => Effect::Stays(Refusal::Busy),
         Operation::EraseSuspended(suspended) => {
             let erase = suspended.erase;
             let suspension = Suspension::OfErase(erase);
@@ -62,14 +64,14 @@ pub fn written(
     }
 }
 
-// "B0H at any address suspends a running block erase .. at once"; any other write is BUSY.
-fn in_erase(erase: Erase, word: u16) -> Effect
-    ensures { λ r. ⌜ r ≡ inErase erase word ⌝ }
+// "B0H during a running block erase starts 20 µs in which the block makes no progress"; any other write is BUSY.
+fn in_erase(part: Part, erase: Erase, word: u16) -> Effect
+    ensures { λ r. ⌜ r ≡ inErase part erase word ⌝ }
 {
     if word % 256 == 0xb0 {
-        return Effect::Starts(Operation::EraseSuspended(SuspendedErase {
+        return Effect::Starts(Operation::Recovering(Recovery {
             erase: erase,
-            inside: Inside::Nothing,
+            left: figures::recovery_time(part),
         }));
     }
     Effect::Stays(Refusal::Busy)

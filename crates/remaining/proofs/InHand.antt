@@ -11,14 +11,14 @@ use Rattle.plain.specs.declared.Erase.{Erase}
 use Rattle.plain.specs.declared.Inside.{Inside}
 use Rattle.plain.specs.declared.Inside.the-variants.{Nothing, Runs}
 use Rattle.plain.specs.declared.Operation.{Operation}
-use Rattle.plain.specs.declared.Operation.the-variants.{Idle, Programming, ProgramSuspended, Window, Erasing, EraseSuspended, ChipErasing}
+use Rattle.plain.specs.declared.Operation.the-variants.{Idle, Programming, ProgramSuspended, Window, Erasing, Recovering, EraseSuspended, ChipErasing}
 use Rattle.plain.specs.declared.Running.{Running}
-use Rattle.plain.specs.declared.Running.the-variants.{Still, Programs, Waits, Erases, ErasesChip}
+use Rattle.plain.specs.declared.Running.the-variants.{Still, Programs, Waits, Erases, Recovers, ErasesChip}
 use Rattle.plain.specs.Figures.{windowTime, eraseTime, chipTime}
 use Rattle.plain.specs.Operations.{runningOf, runningInside}
 use Rattle.plain.specs.Record.{suspended}
 use Rattle.plain.specs.Sound.{operationSound}
-use Rattle.plain.proofs.Facts.{EraseFacts, programming, window, erasing, inside-runs, chip-erasing}
+use Rattle.plain.proofs.Facts.{EraseFacts, programming, window, erasing, recovering, inside-runs, chip-erasing}
 use Rattle.remaining.specs.Remaining.{Fits}
 
 -- the block in hand is one of the part's, and has some of its time left
@@ -32,6 +32,7 @@ Timely p Still = Unit {0}
 Timely p (Programs q) = 1 ≤ q .left
 Timely p (Waits e) = Timed p e (windowTime p)
 Timely p (Erases e) = Timed p e (eraseTime p)
+Timely p (Recovers r) = 1 ≤ r .left
 Timely p (ErasesChip e) = Timed p e (chipTime p)
 
 module _ (p : Part) (bits : Protection) where
@@ -50,6 +51,7 @@ module _ (p : Part) (bits : Protection) where
   timely (ProgramSuspended q) s = tt
   timely (Window e) s = timed e (windowTime p) (window p bits e s .erase)
   timely (Erasing e) s = timed e (eraseTime p) (erasing p bits e s .erase)
+  timely (Recovering r) s = recovering p bits r s .some-left
   timely (EraseSuspended s) h = inside-timely (s .erase) (s .inside) h
   timely (ChipErasing e) s = timed e (chipTime p) (chip-erasing p bits e s)
 

@@ -9,12 +9,12 @@ use Rattle.geometry.specs.Parts.{blockCount}
 use Rattle.protection.specs.declared.Protection.{Protection}
 use Rattle.plain.specs.declared.Operation.{Operation}
 use Rattle.plain.specs.declared.Running.{Running}
-use Rattle.plain.specs.declared.Running.the-variants.{Still, Programs, Waits, Erases, ErasesChip}
+use Rattle.plain.specs.declared.Running.the-variants.{Still, Programs, Waits, Erases, Recovers, ErasesChip}
 use Rattle.plain.specs.Figures.{eraseTime, chipTime}
 use Rattle.plain.specs.Programs.{firstWord}
 use Rattle.plain.specs.Sound.{operationSound}
 use Rattle.remaining.specs.declared.Change.{Change}
-use Rattle.remaining.specs.declared.Change.the-variants.{Never, WindowEnds, WordDone, BlockDone}
+use Rattle.remaining.specs.declared.Change.the-variants.{Never, WindowEnds, RecoveryEnds, WordDone, BlockDone}
 use Rattle.remaining.specs.declared.Finish.{Finish}
 
 -- the operation is sound under some protection
@@ -22,7 +22,7 @@ pub record Fits (p : Part) (o : Operation) : Type 0 where
   pub bits : Protection
   pub sound : operationSound p bits o ≡ true
 
--- ---- the next change: the window ends, a word or a block is finished
+-- ---- the next change: the window or a recovery ends, a word or a block is finished
 
 abbrev pub finish : (after at : ℕ) → Finish
 finish n x = record { after = n; at = x }
@@ -32,6 +32,7 @@ changeOf Still = Never
 changeOf (Programs q) = WordDone (finish (q .left) (firstWord (q .writes)))
 changeOf (Waits e) = WindowEnds (e .left)
 changeOf (Erases e) = BlockDone (finish (e .left) (e .hand))
+changeOf (Recovers r) = RecoveryEnds (r .left)
 changeOf (ErasesChip e) = BlockDone (finish (e .left) (e .hand))
 
 -- ---- the end of all that runs
@@ -45,10 +46,12 @@ counted test (suc k) n = cond (test n) 1 0 + counted test k (suc n)
 unfoldable pub toCome : Part → Blocks → (hand : ℕ) → ℕ
 toCome p list hand = counted (has list) (blockCount p - suc hand) (suc hand)
 
--- "700,000 µs each" in a block erase, "500,000 µs each" in a chip erase; in the window the block in hand has its time yet to run, too
+-- "700,000 µs each" in a block erase, "500,000 µs each" in a chip erase; in the window the block in hand has its time yet to run, too;
+-- after a recovery the erase is suspended, and runs no more
 unfoldable pub untilEnd : Part → Running → ℕ
 untilEnd p Still = 0
 untilEnd p (Programs q) = q .left
 untilEnd p (Waits e) = e .left + eraseTime p + toCome p (e .list) (e .hand) * eraseTime p
 untilEnd p (Erases e) = e .left + toCome p (e .list) (e .hand) * eraseTime p
+untilEnd p (Recovers r) = r .left
 untilEnd p (ErasesChip e) = e .left + toCome p (e .list) (e .hand) * chipTime p

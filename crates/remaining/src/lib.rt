@@ -15,6 +15,7 @@ use plain::figures;
 pub enum Change {
     Never,
     WindowEnds(u64),
+    RecoveryEnds(u64),
     WordDone(Finish),
     BlockDone(Finish),
 }
@@ -41,6 +42,7 @@ pub fn change_of(running: Running) -> Change
             after: erase.left,
             at: erase.hand,
         }),
+        Running::Recovers(recovery) => Change::RecoveryEnds(recovery.left),
         Running::ErasesChip(erase) => Change::BlockDone(Finish {
             after: erase.left,
             at: erase.hand,
@@ -63,6 +65,7 @@ pub fn until_end(part: Part, operation: Operation) -> u64
             rest + full
         }
         Running::Erases(erase) => rest_of(part, erase, figures::erase_time(part)),
+        Running::Recovers(recovery) => recovery.left,
         Running::ErasesChip(erase) => rest_of(part, erase, figures::chip_time(part)),
     }
 }

@@ -28,6 +28,7 @@ fn is_still(running: Running) -> bool
         Running::Programs(_) => false,
         Running::Waits(_) => false,
         Running::Erases(_) => false,
+        Running::Recovers(_) => false,
         Running::ErasesChip(_) => false,
     }
 }

@@ -8,6 +8,7 @@ use plain::Erase;
 use plain::Inside;
 use plain::Operation;
 use plain::Program;
+use plain::Recovery;
 use plain::Running;
 use plain::SuspendedErase;
 
@@ -28,6 +29,10 @@ pub fn polls(part: Part, running: Running, address: usize) -> bool
         }
         Running::Waits(erase) => part.bank_of(address) == part.bank_of_block(erase.hand),
         Running::Erases(erase) => part.bank_of(address) == part.bank_of_block(erase.hand),
+        Running::Recovers(recovery) => {
+            let erase = recovery.erase;
+            part.bank_of(address) == part.bank_of_block(erase.hand)
+        }
         Running::ErasesChip(_) => true,
     }
 }
@@ -42,6 +47,13 @@ pub fn polled(part: Part, operation: Operation, address: usize) -> Operation
         Operation::ProgramSuspended(_) => operation,
         Operation::Window(erase) => Operation::Window(erase_polled(part, erase, address)),
         Operation::Erasing(erase) => Operation::Erasing(erase_polled(part, erase, address)),
+        Operation::Recovering(recovery) => {
+            let erase = recovery.erase;
+            Operation::Recovering(Recovery {
+                erase: erase_polled(part, erase, address),
+                left: recovery.left,
+            })
+        }
         Operation::EraseSuspended(suspended) => {
             let erase = suspended.erase;
             let inside = suspended.inside;
@@ -111,6 +123,10 @@ pub fn status_of(running: Running) -> u16
         }
         Running::Waits(erase) => status_word(false, erase.dq6, false, erase.dq2),
         Running::Erases(erase) => status_word(false, erase.dq6, true, erase.dq2),
+        Running::Recovers(recovery) => {
+            let erase = recovery.erase;
+            status_word(false, erase.dq6, true, erase.dq2)
+        }
         Running::ErasesChip(erase) => status_word(false, erase.dq6, true, erase.dq2),
     }
 }

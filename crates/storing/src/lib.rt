@@ -41,6 +41,7 @@ pub fn put_operation(words: &mut [u64], operation: Operation)
     put_erase(words, told.erase);
     put_program(words, told.program);
     words[layout::OPERATION_AT] = told.number;
+    words[layout::RECOVERY_AT] = told.recovery;
 }
 
 fn put_erase(words: &mut [u64], erase: Erase)

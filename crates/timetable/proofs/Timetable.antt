@@ -12,7 +12,7 @@ use Rattle.geometry.specs.declared.Part.the-variants.{Small}
 use Rattle.geometry.specs.Parts.{blockCount, bankCount, unitOf, sizeIn, firstIn, blockIn, bankOf, bankIn, bankOfBlock}
 use Rattle.protection.specs.Protection.{protectedBy, unprotected}
 use Rattle.plain.specs.Refusals.{number}
-use Rattle.plain.specs.Figures.{programTime, windowTime, eraseTime, chipTime, runningCurrent, standbyCurrent, clockLimit}
+use Rattle.plain.specs.Figures.{programTime, windowTime, eraseTime, recoveryTime, chipTime, runningCurrent, standbyCurrent, clockLimit}
 use Rattle.plain.specs.Lent.{isWhole}
 use Rattle.plain.specs.Programs.{firstWord, liesIn, blockWritten, bankWritten, raises, finished, debrisWords}
 use Rattle.plain.specs.Operations.{runningInside, runningOf, suspensionOf}
@@ -49,7 +49,7 @@ record Computed : Type 0 where
 computed : Computed
 unfolding has pack setOf some seek programmed cells.raises erased
     blockCount bankCount unitOf sizeIn firstIn blockIn bankOf bankIn bankOfBlock protectedBy unprotected
-    number programTime windowTime eraseTime chipTime runningCurrent standbyCurrent clockLimit
+    number programTime windowTime eraseTime recoveryTime chipTime runningCurrent standbyCurrent clockLimit
     firstWord liesIn blockWritten bankWritten raises finished debrisWords
     runningInside runningOf suspensionOf
     meterSound programSound listSound chipListSound lowest insideSound operationSound

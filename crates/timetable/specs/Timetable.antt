@@ -70,9 +70,12 @@ eraseAfter es t = record { from = metered 0 0; events = eraseOf 64 ++ es; stated
 abbrev second : List Event
 second = wait 20 ∷ write 128 0x30 ∷ []
 
--- 1,000 µs into block 8 it is suspended; the program at 200 lies in block 10
+-- 1,000 µs into block 8 it is stopped, and suspended when it has recovered; the program at 200 lies in block 10
+abbrev stopped : List Event
+stopped = second ++ (wait 1050 ∷ write 0 0xB0 ∷ [])
+
 abbrev resting : List Event
-resting = second ++ (wait 1050 ∷ write 0 0xB0 ∷ [])
+resting = stopped ++ (wait 20 ∷ [])
 
 abbrev inside : List Event
 inside = resting ++ programOf 200 0x1234
@@ -83,6 +86,11 @@ erase =
     ∷ eraseAfter second (told 1400050 50 none none 0)
     ∷ eraseAfter (second ++ (wait 50 ∷ [])) (told 1400000 700000 8 none 0)
     ∷ eraseAfter (second ++ (wait 1050 ∷ [])) (told 1399000 699000 8 none 64)
+    -- stopped: the recovery alone is left to run, and ends with no block or word; a cut would need the block's debris
+    ∷ eraseAfter stopped (told 20 20 none none 64)
+    ∷ eraseAfter (stopped ++ (wait 19 ∷ [])) (told 1 1 none none 64)
+    -- so before the block has begun, where a cut would need none
+    ∷ eraseAfter (second ++ (wait 50 ∷ write 0 0xB0 ∷ wait 5 ∷ [])) (told 15 15 none none 0)
     -- suspended: nothing runs, and a cut would still need the block's debris
     ∷ eraseAfter resting (told 0 none none none 64)
     ∷ eraseAfter inside (told 6 6 none 200 64)

@@ -1,6 +1,6 @@
 // Is what runs or is suspended sound? One function for each kind of operation.
 ghost use mathlib.Core.Path.{_≡_};
-ghost use Rattle.plain.specs.declared.Operation.the-variants.{Window, Erasing, EraseSuspended, ChipErasing};
+ghost use Rattle.plain.specs.declared.Operation.the-variants.{Window, Erasing, Recovering, EraseSuspended, ChipErasing};
 ghost use Rattle.plain.specs.Sound.{timeSound, programSound, insideSound, operationSound};
 
 mod lists;
@@ -10,6 +10,7 @@ use plain::Erase;
 use plain::Inside;
 use plain::Operation;
 use plain::Program;
+use plain::Recovery;
 use plain::SuspendedErase;
 use plain::figures;
 use protection::Protection;
@@ -23,6 +24,7 @@ pub fn operation_sound(part: Part, bits: Protection, operation: Operation) -> bo
         Operation::ProgramSuspended(program) => program_sound(part, bits, program),
         Operation::Window(erase) => window_sound(part, bits, erase),
         Operation::Erasing(erase) => erasing_sound(part, bits, erase),
+        Operation::Recovering(recovery) => recovering_sound(part, bits, recovery),
         Operation::EraseSuspended(suspended) => suspended_sound(part, bits, suspended),
         Operation::ChipErasing(erase) => chip_erasing_sound(part, bits, erase),
     }
@@ -72,6 +74,17 @@ fn erasing_sound(part: Part, bits: Protection, erase: Erase) -> bool
         return false;
     }
     time_sound(erase.left, figures::erase_time(part))
+}
+
+// "Recovery, 1 to 20 µs left, belongs to a running block erase past its window": it is sound if that erase is.
+fn recovering_sound(part: Part, bits: Protection, recovery: Recovery) -> bool
+    ensures { λ r. ⌜ r ≡ operationSound part bits (Recovering recovery) ⌝ }
+{
+    let erase = recovery.erase;
+    if !erasing_sound(part, bits, erase) {
+        return false;
+    }
+    time_sound(recovery.left, figures::recovery_time(part))
 }
 
 // A suspended erase is sound if it would be as it runs, and so is what goes on inside.

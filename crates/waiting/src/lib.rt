@@ -27,6 +27,7 @@ pub fn pass(part: Part, meter: Meter, operation: Operation, cells: &mut [u16], n
         },
         Operation::Window(e) => erasing::pass_window(part, meter, e, cells, n),
         Operation::Erasing(e) => erasing::pass_erase(part, false, meter, e, cells, n),
+        Operation::Recovering(r) => recovering::pass_recovery(part, meter, r, n),
         Operation::EraseSuspended(s) => programming::pass_suspended(part, meter, s, cells, n),
         Operation::ChipErasing(e) => erasing::pass_erase(part, true, meter, e, cells, n),
     }

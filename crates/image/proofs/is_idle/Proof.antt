@@ -1,4 +1,3 @@
-use mathlib.Core.Path.{sym, _∙_}
 use native.Mathlib.Omega.{arith}
 use borrow.Author.Needs.{needs}
 use Rattle.layout.specs.Image.{idleWords}
@@ -16,6 +15,8 @@ is-idle-spec =
     (λ c κs. search needs)  -- is-marked-requires
     (λ c. rw (fails (c .before .is-marked .ensures) (c .if1 .taken)))  -- returns
     (λ c κs. let long = is-marked _ (holds (c .before .is-marked .ensures) (c .if1 .left)) .long in (omega arith, omega arith))  -- are-unused-requires
-    (λ c. rw (holds (c .before .before .before .is-marked .ensures) (c .before .before .if1 .left)) (sym (sym (numbers-first _) ∙ rw (fails (c .before .are-unused .ensures) (c .if2 .taken)))))  -- returns-2
+    (λ c. rw (holds (c .before .before .before .is-marked .ensures) (c .before .before .if1 .left), ← numbers-first _, fails (c .before .are-unused .ensures) (c .if2 .taken)))  -- returns-2
     (λ c κs. let long = is-marked _ (holds (c .before .before .before .is-marked .ensures) (c .before .before .if1 .left)) .long in (omega arith, omega arith))  -- are-unused-requires-2
-    (λ c. rw (holds (c .before .before .before .before .is-marked .ensures) (c .before .before .before .if1 .left)) (c .are-unused2 .ensures ∙ sym (sym (numbers-first _) ∙ rw (holds (c .before .before .are-unused .ensures) (c .before .if2 .left))))))  -- returns-3
+    (λ c. rw (holds (c .before .before .before .before .before .is-marked .ensures) (c .before .before .before .before .if1 .left), ← numbers-first _, holds (c .before .before .before .are-unused .ensures) (c .before .before .if2 .left), fails (c .before .are-unused2 .ensures) (c .if3 .taken)))  -- returns-3
+    (λ c. omega (arith, is-marked _ (holds (c .before .before .before .before .before .before .is-marked .ensures) (c .before .before .before .before .before .if1 .left)) .long))  -- shared-slice-read-result
+    (λ c. rw (holds (c .before .before .before .before .before .before .is-marked .ensures) (c .before .before .before .before .before .if1 .left), ← numbers-first _, holds (c .before .before .before .before .are-unused .ensures) (c .before .before .before .if2 .left), holds (c .before .before .are-unused2 .ensures) (c .before .if3 .left))))  -- returns-4

@@ -15,9 +15,12 @@ runs-in-spec =
     (λ c κs. tt)  -- bank-of-block-requires
     (λ c. search needs)  -- enum-known-running-3
     (λ c κs. tt)  -- bank-of-block-requires-2
+    (λ c. search needs)  -- enum-known-running-4
+    (λ c κs. tt)  -- bank-of-block-requires-3
     (λ c. search needs)  -- enum-told-2
     (λ c. rw (c .enum-told .given .1))  -- returns
     (λ c. rw (c .bank-written .ensures, c .before .before .before .running .given .1))  -- returns-2
     (λ c. rw (c .bank-of-block .ensures, c .before .before .running2 .given .1))  -- returns-3
     (λ c. rw (c .bank-of-block2 .ensures, c .before .before .running3 .given .1))  -- returns-4
-    (λ c. rw (c .enum-told2 .given .1)))  -- returns-5
+    (λ c. rw (c .bank-of-block3 .ensures, c .before .before .before .running4 .given .1))  -- returns-5
+    (λ c. rw (c .enum-told2 .given .1)))  -- returns-6

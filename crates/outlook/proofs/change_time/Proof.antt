@@ -12,7 +12,9 @@ change-time-spec =
     (λ c. search needs)  -- enum-known-change
     (λ c. search needs)  -- enum-known-change-2
     (λ c. search needs)  -- enum-known-change-3
+    (λ c. search needs)  -- enum-known-change-4
     (λ c. rw (c .enum-told .given .1))  -- returns
     (λ c. rw (c .before .change .given .1))  -- returns-2
     (λ c. rw (c .before .change2 .given .1))  -- returns-3
-    (λ c. rw (c .before .change3 .given .1)))  -- returns-4
+    (λ c. rw (c .before .change3 .given .1))  -- returns-4
+    (λ c. rw (c .before .change4 .given .1)))  -- returns-5

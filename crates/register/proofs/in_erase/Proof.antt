@@ -6,5 +6,6 @@ pub in-erase-spec : {M : Type 1} → statement M
 in-erase-spec =
     tie.close
     (tie.spec
-    (λ c. rw (eq-eqb _ _ (c .if1 .taken)))  -- returns
+    (λ c κs. tt)  -- recovery-time-requires
+    (λ c. rw (eq-eqb _ _ (c .before .if1 .taken), c .recovery-time .ensures))  -- returns
     (λ c. rw (ne-eqb _ _ (c .if1 .left))))  -- returns-2

@@ -14,8 +14,10 @@ change-of-spec =
     (λ c. search needs)  -- enum-known-running-2
     (λ c. search needs)  -- enum-known-running-3
     (λ c. search needs)  -- enum-known-running-4
+    (λ c. search needs)  -- enum-known-running-5
     (λ c. rw (c .enum-told .given .1))  -- returns
     (λ c. rw (c .first-word .ensures, c .before .before .before .running .given .1))  -- returns-2
     (λ c. rw (c .before .running2 .given .1))  -- returns-3
     (λ c. rw (c .before .running3 .given .1))  -- returns-4
-    (λ c. rw (c .before .running4 .given .1)))  -- returns-5
+    (λ c. rw (c .before .running4 .given .1))  -- returns-5
+    (λ c. rw (c .before .running5 .given .1)))  -- returns-6

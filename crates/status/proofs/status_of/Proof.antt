@@ -18,8 +18,11 @@ status-of-spec =
     (λ c κs. tt)  -- status-word-requires-3
     (λ c. search needs)  -- enum-known-running-4
     (λ c κs. tt)  -- status-word-requires-4
+    (λ c. search needs)  -- enum-known-running-5
+    (λ c κs. tt)  -- status-word-requires-5
     (λ c. rw (c .enum-told .given .1))  -- returns
     (λ c. rw (c .status-word .ensures, c .before .dq7 .ensures, c .before .before .before .before .running .given .1))  -- returns-2
     (λ c. rw (c .status-word2 .ensures, c .before .before .running2 .given .1))  -- returns-3
     (λ c. rw (c .status-word3 .ensures, c .before .before .running3 .given .1))  -- returns-4
-    (λ c. rw (c .status-word4 .ensures, c .before .before .running4 .given .1)))  -- returns-5
+    (λ c. rw (c .status-word4 .ensures, c .before .before .before .running4 .given .1))  -- returns-5
+    (λ c. rw (c .status-word5 .ensures, c .before .before .running5 .given .1)))  -- returns-6

@@ -13,5 +13,6 @@ put-operation-spec =
     (λ c κs. search needs)  -- put-erase-requires
     (λ c κs. search needs)  -- put-program-requires
     (λ c. search needs)  -- slice-write-words
-    (λ c. rw length-set (search needs))  -- same-length
+    (λ c. rw length-set (search needs))  -- slice-write-words-2
+    (λ c. rw (length-set, length-set) (search needs))  -- same-length
     (λ c. rw (c .before .before .put-program .ensures, c .before .before .before .before .before .before .put-erase .ensures, c .before .before .before .before .before .before .before .before .parts-of .ensures)))  -- returns

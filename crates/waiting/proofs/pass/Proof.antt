@@ -1,8 +1,9 @@
 -- Each operation is passed by its own function.
 use mathlib.Core.Path.{refl}
 use borrow.Author.Needs.{needs}
+use Rattle.plain.proofs.Facts.{recovering}
 use Rattle.plain.proofs.InTime.{idle-still, program-still}
-use Rattle.moments.proofs.Passed.{still-passed, passable-as}
+use Rattle.moments.proofs.Passed.{alone-passed, still-passed, passable-as}
 use Rattle.waiting.proofs.pass.Statement.{statement}
 use Rattle.waiting.proofs.pass.Tie as tie
 
@@ -21,9 +22,13 @@ pass-spec =
     (λ c. search needs)  -- enum-known-operation-3
     (λ c κs. passable-as _ _ _ _ _ _ (c .before .before .operation3 .given .1) (c .before .before .before .before .before .pre))  -- pass-erase-requires
     (λ c. search needs)  -- enum-known-operation-4
-    (λ c κs. passable-as _ _ _ _ _ _ (c .before .before .operation4 .given .1) (c .before .before .before .before .before .pre))  -- pass-suspended-requires
+    (λ c κs.
+    let fit = c .before .before .before .before .pre in
+    (fit .room, recovering _ _ _ (rw (c .before .operation4 .given .1) at (fit .sound)) .some-left))  -- pass-recovery-requires
     (λ c. search needs)  -- enum-known-operation-5
-    (λ c κs. passable-as _ _ _ _ _ _ (c .before .before .operation5 .given .1) (c .before .before .before .before .before .pre))  -- pass-erase-requires-2
+    (λ c κs. passable-as _ _ _ _ _ _ (c .before .before .operation5 .given .1) (c .before .before .before .before .before .pre))  -- pass-suspended-requires
+    (λ c. search needs)  -- enum-known-operation-6
+    (λ c κs. passable-as _ _ _ _ _ _ (c .before .before .operation6 .given .1) (c .before .before .before .before .before .pre))  -- pass-erase-requires-2
     (λ c.
     let done = still-passed _ _ _ _ _ (idle-still _) in
     rw (c .before .enum-told .given .1, c .stood-by .ensures) (done .result, done .exit))  -- returns
@@ -36,7 +41,10 @@ pass-spec =
     (λ c. rw (c .before .before .before .before .before .operation2 .given .1) (c .before .before .pass-window .ensures))  -- returns-4
     (λ c. search needs)  -- same-length-3
     (λ c. rw (c .before .before .before .before .before .operation3 .given .1) (c .before .before .pass-erase .ensures))  -- returns-5
+    (λ c.
+    let done = alone-passed _ _ _ _ _ _ (c .pass-recovery .ensures) in
+    rw (c .before .before .operation4 .given .1) (done .result, done .exit))  -- returns-6
     (λ c. search needs)  -- same-length-4
-    (λ c. rw (c .before .before .before .before .before .operation4 .given .1) (c .before .before .pass-suspended .ensures))  -- returns-6
+    (λ c. rw (c .before .before .before .before .before .operation5 .given .1) (c .before .before .pass-suspended .ensures))  -- returns-7
     (λ c. search needs)  -- same-length-5
-    (λ c. rw (c .before .before .before .before .before .operation5 .given .1) (c .before .before .pass-erase2 .ensures)))  -- returns-7
+    (λ c. rw (c .before .before .before .before .before .operation6 .given .1) (c .before .before .pass-erase2 .ensures)))  -- returns-8

@@ -1,4 +1,5 @@
-use borrow.Author.Tests.{ne-eqb}
+use borrow.Author.Tests.{eq-eqb, ne-eqb}
+use borrow.Author.Needs.{needs}
 use Rattle.layout.specs.Operations.{operationOf}
 use Rattle.numbers.proofs.operations.operation_of.Statement.{statement}
 use Rattle.numbers.proofs.operations.operation_of.Tie as tie
@@ -8,11 +9,6 @@ unfolding operationOf
 operation-of-spec =
     tie.close
     (tie.spec
-    (λ c. rw (c .match .keys1))  -- returns
-    (λ c. rw (c .match .keys2))  -- returns-2
-    (λ c. rw (c .match .keys3))  -- returns-3
-    (λ c. rw (c .match .keys4))  -- returns-4
-    (λ c. rw (c .match .keys5))  -- returns-5
-    (λ c. rw (c .match .keys6))  -- returns-6
-    (λ c. rw (c .match .keys7))  -- returns-7
-    (λ c. rw (ne-eqb _ _ (c .match .rest .0 .0 .0 .0 .0 .0 .1), ne-eqb _ _ (c .match .rest .0 .0 .0 .0 .0 .1), ne-eqb _ _ (c .match .rest .0 .0 .0 .0 .1), ne-eqb _ _ (c .match .rest .0 .0 .0 .1), ne-eqb _ _ (c .match .rest .0 .0 .1), ne-eqb _ _ (c .match .rest .0 .1), ne-eqb _ _ (c .match .rest .1))))  -- returns-8
+    (λ c κs. search needs)  -- operation-numbered-requires
+    (λ c. rw (eq-eqb _ _ (c .before .if1 .taken)) (c .operation-numbered .ensures))  -- returns
+    (λ c. rw (ne-eqb _ _ (c .if1 .left))))  -- returns-2
