@@ -70,14 +70,6 @@ numbered-back = each 8 Back
 pub back : (n t : ℕ) → ltb n 8 ≡ true → (eqb n 4 || eqb t 0) ≡ true → (e : Erase) (q : Program)
     → operationParts (operationOf (partsWith n e q t)) ≡ partsWith n (if erases n then e else noErase) (if programs n then q else noProgram) t
 unfolding operationOf operationParts
-back n t h f e q = by-cases (eqb t 0) resting recovering
-  where
-    resting : eqb t 0 ≡ true → operationParts (operationOf (partsWith n e q t)) ≡ partsWith n (if erases n then e else noErase) (if programs n then q else noProgram) t
-    resting z =
-        let none = eqb-true t 0 z in
-        rw (z, none) (numbered-back n h e q)
-
-    recovering : eqb t 0 ≡ false → operationParts (operationOf (partsWith n e q t)) ≡ partsWith n (if erases n then e else noErase) (if programs n then q else noProgram) t
-    recovering z =
-        let four : n ≡ 4 = eqb-true n 4 (or-left (eqb n 4) (rw z at f)) in
-        rw (z, four)
+back n t h f e q =
+    by-cases (eqb t 0) (λ z. rw (z, eqb-true t 0 z) (numbered-back n h e q))
+    (λ z. rw (z, eqb-true n 4 (or-left (eqb n 4) (rw z at f))))
