@@ -1,8 +1,10 @@
 -- Each operation is passed by its own function.
 use mathlib.Core.Path.{refl}
+use native.Mathlib.Omega.{arith}
 use borrow.Author.Needs.{needs}
 use Rattle.plain.proofs.Facts.{recovering}
 use Rattle.plain.proofs.InTime.{idle-still, program-still}
+use Rattle.moments.proofs.Rooms.{room-first}
 use Rattle.moments.proofs.Passed.{alone-passed, still-passed, passable-as}
 use Rattle.waiting.proofs.pass.Statement.{statement}
 use Rattle.waiting.proofs.pass.Tie as tie
@@ -24,7 +26,7 @@ pass-spec =
     (λ c. search needs)  -- enum-known-operation-4
     (λ c κs.
     let fit = c .before .before .before .before .pre in
-    (fit .room, recovering _ _ _ (rw (c .before .operation4 .given .1) at (fit .sound)) .some-left))  -- pass-recovery-requires
+    (room-first _ _ _ _ (omega arith) (fit .room), recovering _ _ _ (rw (c .before .operation4 .given .1) at (fit .sound)) .some-left))  -- pass-recovery-requires
     (λ c. search needs)  -- enum-known-operation-5
     (λ c κs. passable-as _ _ _ _ _ _ (c .before .before .operation5 .given .1) (c .before .before .before .before .before .pre))  -- pass-suspended-requires
     (λ c. search needs)  -- enum-known-operation-6
