@@ -1,16 +1,18 @@
 /*
  * A small emulator around the flash chip, to start your own from: a bus that lets time pass, a flash driver as a boot loader
- * has it, a scheduler that knows when to wake it, a device saved and brought back, an updater that forgets an erase, and a battery
- * that fails in the middle of one. It uses the small part: 16,384 words, blocks of 64.
+ * has it, a scheduler that knows when to wake it, a device saved and brought back, an updater that forgets an erase, a battery
+ * that fails in the middle of one, and a serial number in the one-time block. It uses the small part: 16,384 words, blocks of 64.
  */
 #include "k5l2931cam.h"
 #include "k5l2931cam_print.h"
 
 #include <inttypes.h>
 #include <stdio.h>
+#include <string.h>
 
-/* All there is of the chip: its record and its cells. Save both to a file and the device is saved. */
-static uint16_t cells[K5L_SMALL_WORDS];
+/* All there is of the chip: its record, its cells and its one-time words. Save them to a file and the device is saved. Up to the serial
+ * number nobody enters the one-time block: all that it needs until then is this array of 256 words, whatever they hold. */
+static uint16_t cells[K5L_SMALL_WORDS], otp[K5L_OTP_WORDS];
 static struct k5l_device chip;
 
 /* A bus cycle takes 100 ns; the chip counts whole microseconds. */
@@ -69,16 +71,16 @@ static bool sleep_until_change(void)
     return true;
 }
 
-/* A saved device is how many words its record has, the record, and the cells. */
+/* A saved device is how many words its record has, the record, the cells, and the one-time words. */
 static bool save(FILE *file)
 {
     const uint64_t words = K5L_RECORD_WORDS;
 
     return fwrite(&words, sizeof words, 1, file) == 1 && fwrite(chip.record, sizeof chip.record, 1, file) == 1
-        && fwrite(cells, sizeof cells, 1, file) == 1;
+        && fwrite(cells, sizeof cells, 1, file) == 1 && fwrite(otp, sizeof otp, 1, file) == 1;
 }
 
-/* A record of an earlier version may have fewer words: k5l_carry makes one of today's of it. */
+/* A record of an earlier version may have fewer words, and no one-time words saved with it: k5l_carry makes one of today's of it. */
 static bool load(FILE *file)
 {
     uint64_t words, stored[K5L_RECORD_WORDS];
@@ -86,7 +88,8 @@ static bool load(FILE *file)
     return fread(&words, sizeof words, 1, file) == 1 && words <= K5L_RECORD_WORDS
         && fread(stored, sizeof *stored, words, file) == words
         && k5l_carry(stored, words, chip.record, K5L_RECORD_WORDS) == K5L_DONE
-        && fread(cells, sizeof cells, 1, file) == 1 && k5l_device_sound(&chip);
+        && fread(cells, sizeof cells, 1, file) == 1 && (words < K5L_RECORD_WORDS || fread(otp, sizeof otp, 1, file) == 1)
+        && k5l_device_sound(&chip);
 }
 
 static void save_and_load(void)
@@ -230,7 +233,7 @@ static void fail_the_battery(void)
         printf("  exposed: block %" PRIu64 ", words %" PRIu64 " to %" PRIu64 "\n", block, first, last);
     }
     if (word != K5L_NONE)
-        printf("  exposed: word %" PRIu64 ", %04X before\n", word, cells[word]);
+        printf("  exposed: word %" PRIu64 ", %04X before\n", word, (k5l_device_exposed_array(&chip) == K5L_ONE_TIME ? otp : cells)[word]);
     for (unsigned i = 0; i < K5L_SMALL_DEBRIS; i++)
         debris[i] = (uint16_t)(0x9E37 * (i + 1));
     log_refusal("cut", 0, k5l_device_cut(&chip, debris, K5L_SMALL_DEBRIS));
@@ -238,9 +241,43 @@ static void fail_the_battery(void)
     printf("  after the cut: word 192 is %04X, word 68 is %04X; all else is as it was\n", cells[192], cells[68]);
 }
 
+/* The number is not copied: it is read where it lies, as long as the block is entered and nothing runs. */
+static void print_serial(void)
+{
+    uint64_t answer = k5l_device_range(&chip, K5L_OTP_CUSTOMER, 4);
+    const uint16_t *serial = k5l_range_words(answer, chip.cells, chip.otp);
+
+    if (serial == NULL)
+        printf("  no serial number: %s\n", k5l_refusal_name(k5l_range_refusal(answer)));
+    else
+        printf("  serial number %04X-%04X-%04X-%04X\n", serial[0], serial[1], serial[2], serial[3]);
+}
+
+/* Enter is 88H, Exit 90H and 00H. The lock is for ever, and an F0H would leave the block. */
+static void write_serial(void)
+{
+    printf("write a serial number into the one-time block, and lock it:\n");
+    memset(otp, 0xFF, sizeof otp); /* as a new chip has them */
+    print_serial();
+    command(0x88);
+    program(K5L_OTP_CUSTOMER, 0x5EA1);
+    program(K5L_OTP_CUSTOMER + 1, 0x1A7E);
+    program(K5L_OTP_CUSTOMER + 2, 0x0042);
+    program(K5L_OTP_CUSTOMER + 3, 0x9C3B);
+    command(0x60);
+    bus_write(0x1A, 0x68);
+    bus_write(0x1A, 0x48);
+    printf("ask its first word for 0000:\n");
+    command(0xA0);
+    bus_write(K5L_OTP_CUSTOMER, 0);
+    print_serial();
+    command(0x90);
+    bus_write(0, 0x00);
+}
+
 int main(void)
 {
-    log_refusal("fresh", 0, k5l_device_fresh(&chip, K5L_SMALL, cells, K5L_SMALL_WORDS));
+    log_refusal("fresh", 0, k5l_device_fresh(&chip, K5L_SMALL, cells, K5L_SMALL_WORDS, otp, K5L_OTP_WORDS));
     erase_and_program();
     program_again();
     suspend_and_resume();
@@ -253,6 +290,7 @@ int main(void)
     let_pass(3);
     k5l_print_record(stdout, chip.part, chip.record, K5L_RECORD_WORDS);
     fail_the_battery();
+    write_serial();
     printf("the device has run %" PRIu64 " us and drawn %" PRIu64 " pC\n", k5l_device_clock(&chip), k5l_device_charge(&chip));
     return 0;
 }

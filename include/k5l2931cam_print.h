@@ -1,5 +1,5 @@
 /*
- * A record printed in words, for debugging: every field of layout 2, as k5l2931cam.h has it, of sound records and of others.
+ * A record printed in words, for debugging: every field of layout 3, as k5l2931cam.h has it, of sound records and of others.
  *
  *     k5l_print_record(stderr, part, record, K5L_RECORD_WORDS);
  */
@@ -55,7 +55,8 @@ static inline void k5l_print_command(FILE *out, const uint64_t *record)
     static const char *const names[] = {
         "ground", "first unlock write taken", "both unlock writes taken", "A0H taken, a program's address and data are next",
         "80H taken", "80H and the first unlock write taken", "80H and both unlock writes taken", "48H taken, a DYB's value is next",
-        "60H taken", "60H and 68H taken", "60H and 60H taken", "identity reading (90H)", "58H reading"
+        "60H taken", "60H and 68H taken", "60H and 60H taken", "identity reading (90H)", "58H reading",
+        "60H and 68H of the OTP lock taken", "reading of the OTP lock (60H, 48H)"
     };
 
     k5l_print_name(out, "command", names, sizeof names / sizeof *names, record[3]);
@@ -82,8 +83,16 @@ static inline void k5l_print_erase(FILE *out, const uint64_t *record)
 
 static inline void k5l_print_program(FILE *out, const uint64_t *record)
 {
-    fprintf(out, "  program    %04" PRIX64 "H at %" PRIu64 ", %" PRIu64 " us left, DQ6 %" PRIu64 "\n", record[15], record[14],
-            record[16], record[17]);
+    fprintf(out, "  program    %04" PRIX64 "H at %s%" PRIu64 ", %" PRIu64 " us left, DQ6 %" PRIu64 "\n", record[15],
+            record[30] == 1 && record[14] < K5L_OTP_WORDS ? "one-time word " : "", record[14], record[16], record[17]);
+}
+
+static inline void k5l_print_one_time(FILE *out, const uint64_t *record)
+{
+    static const char *const names[] = { "not entered", "entered" };
+
+    k5l_print_name(out, "OTP block", names, sizeof names / sizeof *names, record[30]);
+    fprintf(out, "\n  OTP lock   %" PRIu64 "\n", record[31]);
 }
 
 static inline void k5l_print_operation(FILE *out, const uint64_t *record)
@@ -113,8 +122,8 @@ static inline void k5l_print_record(FILE *out, uint64_t part, const uint64_t *re
             k5l_sound(part, record, words) ? "sound" : "not sound: every event is STATE");
     if (words != K5L_RECORD_WORDS) {
         fprintf(out, "  %zu words, where a record has %d\n", words, K5L_RECORD_WORDS);
-        if (words == 29 && record[0] == 1)
-            fprintf(out, "  layout     1: k5l_carry makes a record of it\n");
+        if ((words == 29 && record[0] == 1) || (words == 30 && record[0] == 2))
+            fprintf(out, "  layout     %" PRIu64 ": k5l_carry makes a record of it\n", record[0]);
         return;
     }
     if (record[0] != K5L_LAYOUT)
@@ -127,6 +136,7 @@ static inline void k5l_print_record(FILE *out, uint64_t part, const uint64_t *re
     fprintf(out, "  PPB lock   %" PRIu64 "\n", record[28]);
     if (record[5] != 4)
         k5l_print_strays(out, record, 29, 30);
+    k5l_print_one_time(out, record);
 }
 
 #endif

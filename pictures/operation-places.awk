@@ -3,6 +3,7 @@ function places() {
     place("ChipErasing", 380, 150); place("Idle", 380, 360); place("Programming", 20, 360); place("ProgramSuspended", 20, 560)
     place("Window", 740, 360); place("Erasing", 1080, 360); place("Recovering", 1095, 465)
     place("EraseSuspended Nothing", 910, 560); place("EraseSuspended Runs", 480, 560)
+    place("InOneTime Nothing", 300, 690); place("InOneTime Runs", 700, 690)
 }
 
 function place(state, x, y) { place_x[state] = x; place_y[state] = y }
@@ -26,6 +27,11 @@ function routes() {
     routed("ChipErasing>Idle", "M510 210L510 355", 518, 290, "")
     routed("ChipErasing>ChipErasing", "M570 165C630 150 630 210 575 195", 626, 184, "")
     routed("ProgramSuspended>Programming", "M115 560L115 425", 123, 495, "")
+    routed("Idle>InOneTime Nothing", "M400 420L400 685", 392, 520, "end")
+    routed("InOneTime Nothing>Idle", "M450 690L450 425", 458, 520, "")
+    routed("InOneTime Nothing>InOneTime Nothing", "M300 705C240 690 240 750 295 735", 250, 724, "end")
+    routed("InOneTime Nothing>InOneTime Runs", "M490 705L695 705", 592, 698, "middle")
+    routed("InOneTime Runs>InOneTime Nothing", "M700 735L495 735", 592, 752, "middle")
 }
 
 function routed(key, d, x, y, anchor) {
@@ -35,6 +41,7 @@ function routed(key, d, x, y, anchor) {
 
 function draw_state(state,    x, y, p) {
     if (!(state in place_x)) die("the state " state " has no place in the picture: give it one in pictures/operation-places.awk")
+    if (!(drawing[runs[state]] in figure)) die("what a microsecond of " state " draws cannot be read")
     x = place_x[state]; y = place_y[state]
     placed++
     box(x, y, 190, 60, drawing[runs[state]] == "runningCurrent" ? "running" : "still")
@@ -42,7 +49,7 @@ function draw_state(state,    x, y, p) {
     words(x + 95, y + 18, "middle bold", p[1])
     if (p[2] != "") words(x + 95, y + 32, "middle small", p[2] == "Nothing" ? "Nothing inside" : "inside it Runs a program")
     words(x + 95, y + (p[2] == "" ? 34 : 44), "middle small dim", grouped(figure[drawing[runs[state]]]) " pC a " micro)
-    if (busy[state] != "") words(x + 95, y + (p[2] == "" ? 48 : 55), "middle small dim", busy[state])
+    if (told[state] != "") words(x + 95, y + (p[2] == "" ? 48 : 55), "middle small dim", told[state])
 }
 
 BEGIN {
@@ -51,8 +58,8 @@ BEGIN {
     read_figures(); read_time(); read_writes(); read_states()
     read_variants("crates/plain/src/lib.rt", "Operation"); read_variants("crates/plain/src/lib.rt", "Inside")
     for (i = 1; i <= variants["Operation"]; i++) {
-        if (variant["Operation", i] != "EraseSuspended") draw_state(variant["Operation", i])
-        else for (j = 1; j <= variants["Inside"]; j++) draw_state("EraseSuspended " variant["Inside", j])
+        if (!(variant["Operation", i] in has_inside)) draw_state(variant["Operation", i])
+        else for (j = 1; j <= variants["Inside"]; j++) draw_state(variant["Operation", i] " " variant["Inside", j])
     }
     for (state in place_x) placed--
     if (placed) die("pictures/operation-places.awk places a state that is not declared")
@@ -65,11 +72,13 @@ BEGIN {
     words(20, 30, "bold large", "The states of an operation")
     words(20, 50, "dim", "Each arrow has the write or the time that causes it. A cut leads from every state to Idle. A suspended program " \
         "is held by stored records alone: no arrow leads there.")
-    words(20, 68, "dim", "A start may be refused instead: PROTECTED, SUSPENDED in a listed block, BANK. A red frame draws the running " \
-        "current.")
-    words(20, 86, "dim", "Drawn from crates/plain: src/lib.rt has the states, specs/Time.antt what time does, Commands.antt what " \
-        "writes do; Operations.antt, Cut.antt and Figures.antt the rest.")
-    if (!failed) picture(1300, 650, "The states of an operation", \
-        "What runs or is suspended, and the writes and times that lead from one state to another", \
+    rests_on("crates/plain/specs/Programs.antt", "barredBy OneTime = OtpLocked")
+    words(20, 68, "dim", "A start may be refused instead: PROTECTED, or OTPLOCKED for a one-time word; SUSPENDED in a listed block; " \
+        "RAISE; BANK. A red frame draws the running current.")
+    words(20, 86, "dim", "In the one-time block 80H is SEQUENCE, so that no erase starts there; in suspension 88H is SUSPENDED.")
+    words(20, 104, "dim", "Drawn from crates/plain: src/lib.rt has the states, specs/Time.antt what time does, Commands.antt what " \
+        "writes do; Operations.antt, Programs.antt, Machine.antt, Cut.antt and Figures.antt the rest.")
+    if (!failed) picture(1300, 780, "The states of an operation", \
+        "What runs, is suspended or is entered, and the writes and times that lead from one state to another", \
         ".running { fill: #fff5f5; stroke: #c53030 } .still { fill: #ebf8ff; stroke: #2b6cb0 }")
 }

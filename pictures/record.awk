@@ -46,7 +46,7 @@ function place_reads(    i, n) {
 
 # Stretches of one doing are one, and the blocks of a chip erase, too.
 function stretch(n,    what, c) {
-    what = doing " " (doing ~ /^program/ ? program_at : "") " " (doing ~ /^(nothing|programs|wipes)$/ ? "" : hand list)
+    what = doing " " (doing ~ /^program/ ? program_name() : "") " " (doing ~ /^(waits|erases|recovers|rests|programsIn)$/ ? hand list : "")
     if (columns && has_stretch[columns] && !full_at && what == stretch_what[columns]) {
         inner_reads[columns] += late_reads; late_reads = 0; inner_waits[columns] += new_wait; band[columns] = band_words()
     } else {
@@ -54,8 +54,8 @@ function stretch(n,    what, c) {
         if (!c) return
         has_stretch[c] = inner_waits[c] = 1; first_hand = hand
         stretch_what[c] = what; stretch_time[c] = stretch_charge[c] = 0
-        band[c] = band_words(); band_class[c] = doing == "programsIn" ? "rests" : doing
-        inner_band[c] = doing == "programsIn" ? "program " program_at : ""
+        band[c] = band_words(); band_class[c] = has_entered() ? "entered" : doing == "programsIn" ? "rests" : doing
+        inner_band[c] = doing == "programsIn" || doing == "programsEntered" ? program_name() : ""
     }
     stretch_time[columns] += n; stretch_charge[columns] += n * current()
     new_wait = 0
@@ -63,12 +63,12 @@ function stretch(n,    what, c) {
 
 function band_words() {
     if (doing == "nothing") return "nothing runs"
-    if (doing == "programs") return "program " program_at
+    if (doing == "programs") return program_name()
     if (doing == "waits") return "window" short_list()
     if (doing == "erases") return "erase " hand
     if (doing == "recovers") return "recovers " hand
     if (doing == "wipes") return "chip erase " (hand == first_hand ? hand : first_hand " to " hand)
-    return "suspended " hand
+    return has_entered() ? "one-time block" : "suspended " hand
 }
 
 function short_list() { return length(list) > 14 ? " " hand " .." : " " trimmed(list) }
@@ -81,6 +81,7 @@ function record_cut(debris,    b) {
     add_note("cut", number_now, "cut, " debris (debris == 1 ? " word" : " words"))
     if (maps >= 20) return
     maps++
-    map_line[maps] = number_now; map_block[maps] = cut_block; map_word[maps] = cut_word; map_said[maps] = ""
+    map_line[maps] = number_now; map_block[maps] = cut_block; map_said[maps] = ""
+    map_word[maps] = cut_word; map_array[maps] = cut_array; map_sealed[maps] = sealed
     for (b = 0; b < block_count; b++) map_guard[maps, b] = guarded[b]
 }

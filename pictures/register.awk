@@ -1,5 +1,6 @@
 # The command register: its states are the declared variants, and what each write does is read from the clauses of
-# crates/plain/specs/Commands.antt, test by test. From ground it is a tree: an effect's leaf is back at ground.
+# crates/plain/specs/Commands.antt, test by test. From ground it is a tree, which register-tree.awk draws: an effect's leaf is back at
+# ground.
 function outcomes() {
     outcome["resumes"] = "what is suspended goes on"
     outcome["begins"] = "the program starts"
@@ -10,30 +11,50 @@ function outcomes() {
     outcome["dybCleared"] = "its block's DYB is cleared"
     outcome["ppbSet"] = "the block's PPB is set"
     outcome["ppbsCleared"] = "all PPBs are cleared"
+    outcome["InOneTime"] = "the one-time block is entered"
+    outcome["Idle"] = "the one-time block is left"
+    outcome["sealedFor"] = "the customer's words are locked"
 }
 
 # ---- tests in words
 
 function hex(s) { sub(/^0x/, "", s); return s "H" }
 
-function test_words(s,    p, n) {
+# What a test asks of the write; `inside` is set if it also asks that the one-time block is entered.
+function test_words(s,    p) {
     s = bare(s)
-    if ((n = parts_of(s, "&&", p)) == 2) return joined(test_words(p[1]), test_words(p[2]))
-    n = parts_of(s, "", p)
+    if (parts_of(s, "&&", p) == 2) return joined(test_words(p[1]), test_words(p[2]))
+    parts_of(s, "", p)
+    if (s == "isEntered s") { inside = 1; return "" }
     if (p[1] == "is" && p[2] == "w") return hex(p[3])
     if (p[1] == "isAt" && p[2] == "a") return hex(p[3])
     if (p[1] == "isDyb" && p[2] == "w") return "low four bits " p[3]
+    if (p[1] == "eqb" && p[2] == "( a % 256 )") return hex(p[3])
     if (s == "eqb ( blockOf p a ) b") return "same block"
-    if (s == "firstUnlock a w" || s == "secondUnlock a w") {
-        if (!(p[1] in clauses)) read_clauses("crates/plain/specs/Cycles.antt", p[1])
-        return test_words(right[p[1], 1])
-    }
-    if (s == "isSuspended s") return "SUSPENDED while an erase or a program is suspended"
-    if (s == "programIsSuspended s") return "SUSPENDED while a program is suspended"
+    if (s == "firstUnlock a w" || s == "secondUnlock a w" || s == "isLockAddress a") return test_words(meant(cycles, p[1]))
+    if (s == "atLock s a") return test_words(meant(commands, p[1]))
     die("the test `" s "` of Commands.antt has no words here")
 }
 
-function joined(a, b) { return b == "same block" ? a ", " b : a "/" b }
+function joined(a, b) { return a == "" || b == "" ? a b : b == "same block" ? a ", " b : a "/" b }
+
+# The right side of a definition by one clause.
+function meant(file, name) {
+    if (!(name in clauses)) read_clauses(file, name)
+    if (clauses[name] != 1) die(name " has several clauses, and is read as one")
+    return right[name, 1]
+}
+
+# `exits` goes by the reading, too: its clause for that one.
+function exit_test(state,    i, p) {
+    read_clauses(commands, "exits")
+    for (i = 1; i <= clauses["exits"]; i++) {
+        parts_of(left["exits", i], "", p)
+        p[3] = bare(p[3]); sub(/ .*/, "", p[3])
+        if (state == "Reads " p[3]) return bare(right["exits", i])
+    }
+    die("no clause of exits is for the state " state)
+}
 
 # Without the brackets around all of it.
 function bare(s,    p) {
@@ -44,34 +65,64 @@ function bare(s,    p) {
 
 # ---- what a clause comes to, from a state and on the words of a test
 
-function comes_to(state, cause, s,    p, n, t) {
+function comes_to(state, cause, s,    p, kept) {
     s = bare(s)
-    n = parts_of(s, "", p)
-    if (p[1] == "if") { choice(state, cause, s); return }
-    if (p[1] == "orReset") { resets[state] = 1; comes_to(state, cause, p[3]) }
-    else if (p[1] == "unless") { proviso = test_words(p[2]); comes_to(state, cause, p[3]); proviso = "" }
-    else if (p[1] == "Falls") falls[state, p[2]] = 1
+    parts_of(s, "", p)
+    kept = proviso
+    if (p[1] == "if") choice(state, cause, s)
+    else if (p[1] == "orReset") { resets[state] = 1; comes_to(state, cause, p[4]) }
+    else if (p[1] == "unless") { provided(suspended_words(bare(p[2]))); comes_to(state, cause, p[3]) }
+    else if (p[1] == "Falls") { if (p[2] != "Sequence") die("a write of " state " falls to " p[2] ", which has no place here") }
     else if (p[1] == "Goes") goes(state, cause, bare(p[2]))
     else if (p[1] == "Protects" || p[1] == "Starts") leaf(state, cause, p[2])
-    else if (p[1] == "unlessLocked") { proviso = "LOCKED if the PPB lock bit is set"; leaf(state, cause, p[3]); proviso = "" }
-    else leaf(state, cause, s)
+    else if (p[1] == "unlessLocked") { provided("LOCKED if the PPB lock bit is set"); leaf(state, cause, p[3]) }
+    else if (p[1] in outcome) leaf(state, cause, s)
+    else comes_to(state, cause, meant(commands, p[1]))
+    proviso = kept
 }
 
-# `if TEST then A else B`: a test that only refuses another address, a protected block or a program is told with what follows.
-function choice(state, cause, s,    p, q, test, then, other) {
+# A note to the arrows that follow.
+function provided(s) { proviso = with(proviso, s) }
+
+function with(notes, s) { return notes (notes == "" ? "" : "|") s }
+
+function suspended_words(s) {
+    if (s == "isSuspended s") return "SUSPENDED while an erase or a program is suspended"
+    if (s == "programIsSuspended s") return "SUSPENDED while a program is suspended"
+    die("the suspension `" s "` of Commands.antt has no words here")
+}
+
+# `if TEST then A else B`: a test that only refuses is told with what follows.
+function choice(state, cause, s,    p, q, test, then, other, kept) {
     if (parts_of(s, "else", q) < 2 || parts_of(q[1], "then", p) != 2) die("the choice `" s "` cannot be read")
     other = substr(s, length(q[1]) + 7)
     test = bare(substr(p[1], 4)); then = p[2]
-    if (test ~ /^not / && then == "Falls Sequence") prefix[state] = test_words(substr(test, 5)) "/"
-    else if (test ~ /^protected / && then == "Falls Protected") proviso = "PROTECTED if the block is"
+    if (test == "exits s r w") test = exit_test(state)
+    kept = also
+    if (test ~ /^not / && then == "Falls Sequence") prefix[state] = test_words(substr(test, 5))
+    else if (test == "barred p bits d" && then == "Falls ( barredAs d )")
+        provided("PROTECTED if its block is, or below " value_of("otpWords") " in the one-time block OTPLOCKED if its word is locked")
     else if (test ~ /^(keepsOut|raises) / && then ~ /^Falls [A-Z][a-z]*$/) also = also (also == "" ? "or " : ", ") toupper(substr(then, 7))
-    else comes_to(state, prefix[state] test_words(test), then)
+    else if (test != "false") chosen(state, cause, test, then)
     comes_to(state, cause, other)
-    proviso = also = ""
+    also = kept
+}
+
+# A test of the write, and of the one-time block if it asks for that: what it takes there does not come to what follows.
+function chosen(state, cause, test, then,    s, kept) {
+    inside = 0
+    s = test_words(test)
+    kept = proviso
+    if (inside && then !~ /^(Goes|Starts|Protects) /) kept = with(kept, "not " (s == "" ? "" : "at " s " ") "in the one-time block")
+    if (then != "Falls Sequence") {
+        if (s == "") die("the choice by `" test "` has no place here")
+        if (inside) provided("in the one-time block only")
+        comes_to(state, joined(cause == "" ? prefix[state] : cause, s), then)
+    } else if (!inside) die("the refusal by `" test "` has no place here")
+    proviso = kept
 }
 
 function goes(state, cause, s,    p) {
-    if (s == "Ground") return
     parts_of(s, "", p)
     if (p[1] != "Entering" && p[1] != "Reads") die("the register goes to `" s "`, which cannot be read")
     s = bare(p[2])
@@ -81,16 +132,17 @@ function goes(state, cause, s,    p) {
 }
 
 function leaf(state, cause, s,    p) {
-    parts_of(bare(s), "", p)
-    if (!(p[1] in outcome)) die("the effect `" s "` of Commands.antt has no words here")
+    s = bare(s)
+    parts_of(s, "", p)
+    if (!(p[1] in outcome) || p[1] == "InOneTime" && s != "InOneTime Nothing") die("the effect `" s "` of Commands.antt has no words here")
     edge(state, cause, "= " outcome[p[1]])
     or_refused[outcome[p[1]]] = also == "" ? refusals_of(p[1]) : also
 }
 
 # The refusals that a starting function of Commands.antt may give instead.
 function refusals_of(name,    i, s, r, refusal) {
-    if (!defines("crates/plain/specs/Commands.antt", name)) return ""
-    read_clauses("crates/plain/specs/Commands.antt", name)
+    if (!defines(commands, name)) return ""
+    read_clauses(commands, name)
     for (i = 1; i <= clauses[name]; i++)
         for (s = right[name, i]; match(s, /Falls [A-Z][a-z]*/); s = substr(s, RSTART + RLENGTH)) {
             refusal = toupper(substr(s, RSTART + 6, RLENGTH - 6))
@@ -108,34 +160,39 @@ function edge(from, cause, to) {
 
 # ---- the states and their clauses
 
-function read_register(    file, i, p, n, state) {
-    file = "crates/plain/specs/Commands.antt"
-    rests_on(file, "orReset w else′ = if is w 0xF0 then Goes Ground else else′")
-    rests_on(file, "unless suspended effect = if suspended then Falls Suspended else effect")
-    rests_on(file, "unlessLocked bits new = if bits .lock then Falls Locked else Protects new")
-    rests_on("crates/plain/specs/Cycles.antt", "isAt a at = eqb (a % 2048) at")
-    rests_on("crates/plain/specs/Cycles.antt", "is w code = eqb (w % 256) code")
-    rests_on("crates/plain/specs/Cycles.antt", "isDyb w value = eqb (w % 16) value")
-    read_clauses(file, "entered"); read_clauses(file, "continued")
+# What the words of the picture rest on.
+function read_words(    i, n, p) {
+    rests_on(commands, "orReset s w else′ = if is w 0xF0 then resets s else else′")
+    n = split("Unsuspended|(OfProgram q)|(OfErase e)", p, "|")
+    for (i = 1; i <= n; i++) rests_on(commands, "resets " p[i] " = Goes Ground")
+    rests_on(commands, "resets Entered = Starts Idle")
+    rests_on(commands, "unless suspended effect = if suspended then Falls Suspended else effect")
+    rests_on(commands, "unlessLocked bits new = if bits .lock then Falls Locked else Protects new")
+    rests_on(commands, "afterA0 p bits s l a w = programData p bits s l (writing (selected s a) a w)")
+    rests_on("crates/plain/specs/Operations.antt", "selected s a = if isEntered s && ltb a otpWords then OneTime else Main")
+    read_clauses("crates/plain/specs/Lent.antt", "otpWords")
+    rests_on("crates/plain/specs/Programs.antt", "barredBy Main = Protected")
+    rests_on("crates/plain/specs/Programs.antt", "barredBy OneTime = OtpLocked")
+    rests_on(cycles, "isAt a at = eqb (a % 2048) at")
+    rests_on(cycles, "is w code = eqb (w % 256) code")
+    rests_on(cycles, "isDyb w value = eqb (w % 16) value")
+}
+
+function read_register(    i, j, p, state) {
+    read_clauses(commands, "entered"); read_clauses(commands, "continued")
+    read_variants("crates/plain/src/lib.rt", "Reading")
     for (i = 1; i <= clauses["entered"]; i++) {
-        n = parts_of(left["entered", i], "", p)
-        if (p[5] == "Ground") follow_clause(file, "Ground", right["entered", i])
-        else if (p[5] == "( Reads r )") {
-            follow_clause(file, "Reads Identity", right["entered", i]); follow_clause(file, "Reads Dybs", right["entered", i])
-        } else if (p[5] != "( Entering c )") die("the register's state " p[5] " is not known here")
+        parts_of(left["entered", i], "", p)
+        if (p[5] == "Ground") comes_to("Ground", "", right["entered", i])
+        else if (p[5] == "( Reads r )")
+            for (j = 1; j <= variants["Reading"]; j++) comes_to("Reads " variant["Reading", j], "", right["entered", i])
+        else if (p[5] != "( Entering c )") die("the register's state " p[5] " is not known here")
     }
     for (i = 1; i <= clauses["continued"]; i++) {
         parts_of(left["continued", i], "", p)
         state = bare(p[5]); sub(/ .*/, "", state)
-        follow_clause(file, "Entering " state, right["continued", i])
+        comes_to("Entering " state, "", right["continued", i])
     }
-}
-
-function follow_clause(file, state, s,    p) {
-    split(s, p, " ")
-    read_clauses(file, p[1])
-    if (clauses[p[1]] != 1) die(p[1] " has several clauses, and is read as one")
-    comes_to(state, "", right[p[1], 1])
 }
 
 # Each declared variant is reached from ground, and there is no other.
@@ -143,68 +200,4 @@ function all_reached(type,    i) {
     read_variants("crates/plain/src/lib.rt", type)
     for (i = 1; i <= variants[type]; i++) if (!(variant[type, i] in reached)) die("the register does not reach " variant[type, i])
     many += variants[type]
-}
-
-# ---- the tree
-
-function place(state, depth,    i, top, to) {
-    if (!children[state]) { y_of[state] = next_y; next_y += 44; x_of[state] = 20 + depth * 212; return }
-    top = next_y
-    for (i = 1; i <= children[state]; i++) {
-        to = child[state, i]
-        if (to ~ /^=/) to = child[state, i] = to " @" state i
-        place(to, depth + 1)
-    }
-    x_of[state] = 20 + depth * 212
-    y_of[state] = (y_of[child[state, 1]] + y_of[child[state, children[state]]]) / 2
-}
-
-function draw_tree(state,    i, to, x, y, s) {
-    x = x_of[state]; y = y_of[state]
-    draw_state(state, x, y)
-    for (i = 1; i <= children[state]; i++) {
-        to = child[state, i]
-        s = " " round(y_of[to])
-        path("M" x + 96 " " round(y) "C" x + 112 " " round(y) " " x + 102 s " " x + 118 s "L" x_of[to] - 3 s, "arrow")
-        words(x + 118, y_of[to] - 5, "small mono", child_cause[state, i])
-        if (child_proviso[state, i] != "") words(x + 118, y_of[to] + 12, "small dim", "(" footnote(child_proviso[state, i]) ")")
-        draw_tree(to)
-    }
-}
-
-function draw_state(state, x, y,    p) {
-    if (sub(/^= /, "", state)) {
-        sub(/ @.*/, "", state)
-        words(x + 2, y + 4, "", state)
-        words(x + 2, y + 17, "small dim", or_refused[state])
-        return
-    }
-    box(x, y - 16, 96, 32, state in resets ? "state" : "data")
-    if (split(state, p, " ") == 1) words(x + 48, y + 4, "middle", state)
-    else { words(x + 48, y - 4, "middle small dim", p[1]); words(x + 48, y + 9, "middle", p[2]) }
-}
-
-function footnote(s) {
-    if (!(s in footnote_of)) { footnote_of[s] = ++footnotes; footnote_words[footnotes] = s }
-    return footnote_of[s]
-}
-
-BEGIN {
-    outcomes()
-    read_register()
-    all_reached("Cycle"); all_reached("Reading")
-    next_y = 150
-    place("Ground", 0)
-    draw_tree("Ground")
-    words(20, 30, "bold large", "The command register")
-    words(20, 50, "dim", "While nothing runs: the " many + 1 " states, and what each write does, as address/data or data at any address. " \
-        "Drawn from crates/plain/specs/Commands.antt and Cycles.antt.")
-    words(20, 68, "dim", "Addresses are compared on their low 11 bits, data on their low 8. From a solid frame F0H goes back to ground; " \
-        "a dashed frame is a data cycle, where F0H is data.")
-    words(20, 86, "dim", "Any other write is SEQUENCE, and goes back to ground. So do the refusals under an arrow, and each effect.")
-    for (i = 1; i <= footnotes; i++) told = told "(" i ") " footnote_words[i] (i < footnotes ? ";  " : ".")
-    words(20, 104, "dim", told)
-    if (!failed) picture(1460, next_y, "The command register", \
-        "The states of the command register as a tree from ground, each arrow with the write that causes it", \
-        ".state { fill: #ebf8ff; stroke: #2b6cb0 } .data { fill: #fffaf0; stroke: #c05621; stroke-dasharray: 4 3 }")
 }

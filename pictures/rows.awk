@@ -3,7 +3,7 @@ function style() {
     return ".read { fill: #4a5568 } .refused { fill: #c53030 } .cut { fill: #c53030; font-weight: bold } .taken { fill: #1a202c }" \
         " .curve { stroke: #2f855a; stroke-width: 2; fill: none } .under { fill: #c6f6d5 } .tick { stroke: #a0aec0; stroke-dasharray: 2 2 }" \
         " .power { stroke: #c53030; stroke-width: 2.5 } .nothing { fill: #edf2f7 } .programs { fill: #90cdf4 } .waits { fill: #faf089 }" \
-        " .erases { fill: #fbb36b } .recovers { fill: #f6ad9b } .wipes { fill: #fc9d9d } .rests { fill: #d6bcfa } .frame { fill: none; stroke: #cbd5e0 }" \
+        " .erases { fill: #fbb36b } .recovers { fill: #f6ad9b } .wipes { fill: #fc9d9d } .rests { fill: #d6bcfa } .entered { fill: #9ae6d4 } .frame { fill: none; stroke: #cbd5e0 }" \
         " .safe { fill: #ffffff; stroke: #cbd5e0 } .guard { fill: #cbd5e0; stroke: #a0aec0 } .hit { fill: #c53030; stroke: #742a2a }" \
         " .part { fill: #ed8936; stroke: #7b341e }"
 }
@@ -82,7 +82,7 @@ function draw_column(c, y,    x, w, y0, y1, curve) {
     if (inner_waits[c] > 1) words(x + 4, y + 137, "small mono dim", inner_words(c))
 }
 
-function head_height() { micro = "\302\265s"; return 108 }
+function head_height() { micro = "\302\265s"; return 126 }
 
 function legend(x, y, class, s) {
     box(x, y - 10, 14, 12, class)
@@ -90,6 +90,7 @@ function legend(x, y, class, s) {
     return x + 19 + length(s) * 6.6 + 16
 }
 
+# What the bands are, and in the row below what the boxes of a cut's map are.
 function legends(y,    x) {
     x = legend(20, y, "programs", "program")
     x = legend(x, y, "waits", "erase window")
@@ -97,10 +98,12 @@ function legends(y,    x) {
     x = legend(x, y, "recovers", "erase recovers")
     x = legend(x, y, "rests", "erase suspended")
     x = legend(x, y, "wipes", "chip erase")
-    x = legend(x, y, "nothing", "nothing runs")
-    x = legend(x, y, "hit", "a cut's block of debris")
-    x = legend(x, y, "part", "block of a cut's word")
-    legend(x, y, "guard", "protected block")
+    x = legend(x, y, "entered", "one-time block entered")
+    legend(x, y, "nothing", "nothing runs")
+    x = legend(20, y + 18, "hit", "a cut's block of debris")
+    x = legend(x, y + 18, "part", "block of a cut's word, or eight one-time words with it")
+    x = legend(x, y + 18, "guard", "protected block, or locked one-time words")
+    legend(x, y + 18, "safe", "any other")
 }
 
 function whole_picture(    s, height) {

@@ -29,13 +29,21 @@ function event(refusal, word) {
     events++
     if (!panel_line) panel_line = number_now
     line_of(number_now)
-    if (refusal != "DONE") refusals++
+    if (kind(refusal) != "taken") refusals++
     if (item[1] == "write" && items == 3) wrote_line(refusal)
-    else if (item[1] == "read" && items == 2 && refusal == "DONE") note_read("read " number_of(item[2]) ": " word)
-    else if (item[1] == "wait" && items == 2 && refusal == "DONE") { new_wait = 1; follow_wait(number_of(item[2])) }
-    else if (item[1] == "cut" && refusal == "DONE") { follow_cut(); record_cut(words_of_cut()) }
-    else if (item[1] ~ /^(read|wait|cut)$/ && refusal != "DONE") note("refused", refusal " (" item[1] ")")
+    else if (item[1] ~ /^(read|wait|cut|range)$/ && refusal != "DONE") note("refused", refusal " (" item[1] ")")
+    else if (item[1] == "read" && items == 2) note_read("read " number_of(item[2]) ": " word)
+    else if (item[1] == "wait" && items == 2) { new_wait = 1; follow_wait(number_of(item[2])) }
+    else if (item[1] == "cut") { follow_cut(); record_cut(words_of_cut()); owes_cut() }
+    else if (item[1] == "range" && items == 3) handed_back(number_of(item[2]), number_of(item[3]))
     else broken("it is no event")
+}
+
+# A range that was taken: of the array that its first address is of.
+function handed_back(first, count) {
+    if (doing != "entered") broken("a range is handed back where the one-time block is not entered, or a program runs")
+    note("taken", "range " array_at(first) " " first " " count)
+    owes(array_at(first) " " first " " count)
 }
 
 function wrote_line(refusal,    a, w) {
@@ -50,22 +58,47 @@ function agrees(told_clock, told_charge) {
     if (charge() != told_charge) broken("the answers have the charge " told_charge ", its events " charge())
 }
 
-# A line of what a cut exposed: `N block B FIRST LAST` or `N word A BEFORE AFTER`.
+# ---- the further lines of an event: `owed` has those that have to follow, as far as its events tell them
+
+function owes(s) { owed = owed s "\n" }
+
+function owes_cut() {
+    if (cut_block != "") owes("block " cut_block " " block_first[cut_block] " " block_first[cut_block] + block_size[cut_block] - 1)
+    if (cut_word != "") owes((cut_array == "otp" ? "otp " : "word ") cut_word)
+}
+
+function pays(s) {
+    if (index(owed, s "\n") != 1) broken("the answers tell of " substr(foreign(s), 1, 40) ", its events do not")
+    owed = substr(owed, length(s) + 2)
+}
+
+function settled() { if (owed != "") broken("the answers do not tell of " substr(owed, 1, index(owed, "\n") - 1)) }
+
+# `N block B FIRST LAST`, `N word A BEFORE AFTER` or `N otp A BEFORE AFTER` of a cut, `N otp A COUNT O1 O2` or `N main A COUNT S1 S2`
+# of a range.
+function further(p, n) {
+    if (p[1] != number_now) broken("a line of another number follows its answer")
+    if (n == 5 && p[2] == "block") pays("block " p[3] " " p[4] " " p[5])
+    else if (n == 5 && (p[2] == "word" || p[2] == "otp")) pays(p[2] " " p[3])
+    else if (n == 6 && (p[2] == "main" || p[2] == "otp")) pays(p[2] " " p[3] " " p[4])
+    else broken("its answer cannot be read")
+    if (n == 5) exposed(p[2], p[3], p[4], p[5])
+}
+
 function exposed(what, at, from, to) {
-    if (at != (what == "block" ? cut_block : cut_word)) broken("the answers tell of a cut " what " " at ", its events of another")
-    exposures++
     if (map_line[maps] != number_now) return
-    map_said[maps] = map_said[maps] (map_said[maps] == "" ? "" : "; ") \
+    map_said[maps] = map_said[maps] (map_said[maps] == "" ? "" : "; ") (what == "otp" ? "one-time " : "") \
         (what == "block" ? "block " at ", words " from " to " to ", holds the debris" : "word " at " was " from "H and is " to "H")
 }
 
 function answer(    p, n) {
     n = split($0, p, " ")
-    if (p[1] == "end" && n == 5) { agrees(p[2], p[3]); end_panel(); follow_fresh(); return }
+    if (p[1] == "end" && n == 7) { settled(); agrees(p[2], p[3]); end_panel(); follow_fresh(); return }
     if (p[1] !~ /^[0-9]+$/) die("the answers have a line that no answer has: `" substr(foreign($0), 1, 40) "`")
+    if (n > 2 && p[2] !~ /^[0-9]+$/) { further(p, n); return }
+    settled()
     number_now = p[1]
     if (n == 2 && p[2] == "malformed") malformed++
-    else if (n == 5 && (p[2] == "block" || p[2] == "word")) exposed(p[2], p[3], p[4], p[5])
     else if (n == 6) { event(p[3], p[4]); agrees(p[5], p[6]) }
     else broken("its answer cannot be read")
 }
@@ -76,6 +109,7 @@ BEGIN {
     follow_fresh()
     top = head_height()
     while (!failed && (getline < answers) > 0) answer()
+    if (!failed) settled()
     if (!failed && columns) end_panel()
     if (!failed) whole_picture()
 }

@@ -30,8 +30,9 @@ function exposures(n, facts,    i) {
         print n " block " cut_block " " block_first[cut_block] " " block_first[cut_block] + block_size[cut_block] - 1 > answers
     }
     if (cut_word == "") return
-    if (!index(facts, "programCut ( writing " cut_word " ")) die("cutFlat states no cut of the word " cut_word)
-    if (index(facts, "programDone ( writing " cut_word " ")) die("the word " cut_word " is not blank when it is cut")
+    if (cut_array != "main") die("cutFlat cuts a one-time word, and looks at cells")
+    if (!index(facts, "programCut ( writing Main " cut_word " ")) die("cutFlat states no cut of the word " cut_word)
+    if (index(facts, "programDone ( writing Main " cut_word " ")) die("the word " cut_word " is not blank when it is cut")
     for (i = 1; looked[i] != cut_word; i++) if (i > addresses) die("cutFlat does not look at the word " cut_word)
     print n " word " cut_word " FFFF " substr(held[i], 3) > answers
 }
@@ -62,5 +63,5 @@ BEGIN {
     for (n = 1; n <= many; n++) { refusal_number = refusals[n]; play(n, happens[n], refusal_name[refusals[n]], tale[3]) }
     if (clock != tale[5] || charge() != tale[6])
         die("cutFlat states clock " tale[5] " and charge " tale[6] ", its events give " clock " and " charge())
-    print "end " tale[5] " " tale[6] " 0 0" > answers
+    print "end " tale[5] " " tale[6] " 0 0 0 0" > answers
 }

@@ -9,8 +9,7 @@
  */
 #define _POSIX_C_SOURCE 200809L
 
-#include "k5l2931cam.h"
-#include "model.h"
+#include "sides.h"
 
 #include <inttypes.h>
 #include <stdio.h>
@@ -19,97 +18,10 @@
 #include <time.h>
 
 /* Block 39 is the first of bank 1B's 96. */
-enum { BLOCK_AT = 1048576, BLOCK_WORDS = 32768, BANK_BLOCKS = 96, OTHER_BANK_AT = 100, BLANK_AT = 101 };
+enum { BLOCK_AT = 1048576, BANK_BLOCKS = 96, OTHER_BANK_AT = 100, BLANK_AT = 101 };
 
-static uint16_t *cells, debris[BLOCK_WORDS];
-
-/* Each side's record, and what it is brought back to before each event of some kinds. */
-static uint64_t image[K5L_RECORD_WORDS], image_before[K5L_RECORD_WORDS];
-static struct model_record record, record_before;
-
-/* The answers go here, so that no call is left out. */
-static volatile uint64_t answer;
-
-/* The events of both sides, for the preparations and for the loops, and the questions. */
-struct side {
-    const char *name;
-    void (*restore)(void);
-    void (*read)(uint64_t address);
-    void (*write)(uint64_t address, uint16_t word);
-    void (*wait)(uint64_t microseconds);
-    void (*cut)(size_t debris_length);
-    void (*sound)(void);
-    void (*reads_cells)(uint64_t bank);
-    void (*exposed_block)(void);
-    void (*exposed_word)(void);
-    void (*clock)(void);
-    void (*charge)(void);
-    void (*until_end)(void);
-    void (*until_change)(void);
-    void (*debris_needed)(void);
-};
-
-static void library_restore(void) { memcpy(image, image_before, sizeof image); }
-static void library_read(uint64_t address)
-{
-    answer = k5l_read(K5L_FULL, image, K5L_RECORD_WORDS, cells, K5L_FULL_WORDS, address);
-}
-static void library_write(uint64_t address, uint16_t word)
-{
-    answer = k5l_write(K5L_FULL, image, K5L_RECORD_WORDS, cells, K5L_FULL_WORDS, address, word);
-}
-static void library_wait(uint64_t microseconds)
-{
-    answer = k5l_wait(K5L_FULL, image, K5L_RECORD_WORDS, cells, K5L_FULL_WORDS, microseconds);
-}
-static void library_cut(size_t debris_length)
-{
-    answer = k5l_cut(K5L_FULL, image, K5L_RECORD_WORDS, cells, K5L_FULL_WORDS, debris, debris_length);
-}
-static void library_sound(void) { answer = k5l_sound(K5L_FULL, image, K5L_RECORD_WORDS); }
-static void library_reads_cells(uint64_t bank) { answer = k5l_reads_cells(K5L_FULL, image, K5L_RECORD_WORDS, bank); }
-static void library_exposed_block(void) { answer = k5l_exposed_block(K5L_FULL, image, K5L_RECORD_WORDS); }
-static void library_exposed_word(void) { answer = k5l_exposed_word(K5L_FULL, image, K5L_RECORD_WORDS); }
-static void library_clock(void) { answer = k5l_clock(K5L_FULL, image, K5L_RECORD_WORDS); }
-static void library_charge(void) { answer = k5l_charge(K5L_FULL, image, K5L_RECORD_WORDS); }
-static void library_until_end(void) { answer = k5l_until_end(K5L_FULL, image, K5L_RECORD_WORDS); }
-static void library_until_change(void) { answer = k5l_until_change(K5L_FULL, image, K5L_RECORD_WORDS); }
-static void library_debris_needed(void) { answer = k5l_debris_needed(K5L_FULL, image, K5L_RECORD_WORDS); }
-
-static void model_side_restore(void) { memcpy(&record, &record_before, sizeof record); }
-static void model_side_read(uint64_t address)
-{
-    struct model_answer given = model_read(MODEL_FULL, &record, cells, K5L_FULL_WORDS, address);
-
-    answer = given.refusal << 16 | given.word;
-}
-static void model_side_write(uint64_t address, uint16_t word)
-{
-    answer = model_write(MODEL_FULL, &record, cells, K5L_FULL_WORDS, address, word);
-}
-static void model_side_wait(uint64_t microseconds) { answer = model_wait(MODEL_FULL, &record, cells, K5L_FULL_WORDS, microseconds); }
-static void model_side_cut(size_t debris_length)
-{
-    answer = model_cut(MODEL_FULL, &record, cells, K5L_FULL_WORDS, debris, debris_length);
-}
-static void model_side_sound(void) { answer = model_sound(MODEL_FULL, &record); }
-static void model_side_reads_cells(uint64_t bank) { answer = model_reads_cells(MODEL_FULL, &record, bank); }
-static void model_side_exposed_block(void) { answer = model_exposed_block(MODEL_FULL, &record); }
-static void model_side_exposed_word(void) { answer = model_exposed_word(MODEL_FULL, &record); }
-static void model_side_clock(void) { answer = model_sound(MODEL_FULL, &record) ? record.clock : MODEL_NONE; }
-static void model_side_charge(void) { answer = model_sound(MODEL_FULL, &record) ? record.charge : MODEL_NONE; }
-static void model_side_until_end(void) { answer = model_until_end(MODEL_FULL, &record); }
-static void model_side_until_change(void) { answer = model_until_change(MODEL_FULL, &record); }
-static void model_side_debris_needed(void) { answer = model_debris_needed(MODEL_FULL, &record); }
-
-static const struct side sides[] = {
-    { "library", library_restore, library_read, library_write, library_wait, library_cut, library_sound, library_reads_cells,
-      library_exposed_block, library_exposed_word, library_clock, library_charge, library_until_end, library_until_change,
-      library_debris_needed },
-    { "model", model_side_restore, model_side_read, model_side_write, model_side_wait, model_side_cut, model_side_sound,
-      model_side_reads_cells, model_side_exposed_block, model_side_exposed_word, model_side_clock, model_side_charge,
-      model_side_until_end, model_side_until_change, model_side_debris_needed },
-};
+/* A one-time word that takes a program. */
+enum { SERIAL_AT = 200 };
 
 /* States that events are measured in. */
 static void prepare_idle(const struct side *side) { (void)side; }
@@ -136,6 +48,11 @@ static void prepare_program(const struct side *side)
     write_program(side);
     side->wait(3);
 }
+
+/* Inside the one-time block, at ground and with a program half entered. */
+static void write_enter(const struct side *side) { side->write(0x555, 0x88); }
+static void prepare_entered(const struct side *side) { prepare_2(side); write_enter(side); }
+static void prepare_entered_3(const struct side *side) { prepare_entered(side); prepare_3(side); }
 
 /* So many blocks of bank 1B listed, and the erase of the first begun. */
 static void prepare_erase_of(const struct side *side, unsigned blocks)
@@ -165,6 +82,9 @@ static void read_bank(const struct side *side) { side->read(BLOCK_AT); }
 static void write_reset(const struct side *side) { side->write(OTHER_BANK_AT, 0xF0); }
 static void write_suspend(const struct side *side) { side->write(OTHER_BANK_AT, 0xB0); }
 static void write_out_of_turn(const struct side *side) { side->write(OTHER_BANK_AT, 0x1234); }
+static void write_4_serial(const struct side *side) { side->write(SERIAL_AT, 0x1234); }
+static void read_serial(const struct side *side) { side->read(SERIAL_AT); }
+static void range_serial(const struct side *side) { side->range(SERIAL_AT, 4); }
 static void wait_1(const struct side *side) { side->wait(1); }
 static void wait_1000(const struct side *side) { side->wait(1000); }
 static void wait_long(const struct side *side) { side->wait(10000000000000); }
@@ -208,6 +128,10 @@ static const struct kind {
     { "program-write-4-restored", 300000, K5L_DONE, true, prepare_3, write_4 },
     { "program-write-4-raise-restored", 300000, K5L_RAISE, true, prepare_3, write_4_raise },
     { "program-four-writes-restored", 100000, K5L_DONE, true, prepare_idle, write_program },
+    { "enter-third-write-restored", 300000, K5L_DONE, true, prepare_2, write_enter },
+    { "one-time-read", 300000, 0xFFFF, false, prepare_entered, read_serial },
+    { "one-time-program-write-4-restored", 300000, K5L_DONE, true, prepare_entered_3, write_4_serial },
+    { "one-time-range", 300000, (uint64_t)K5L_ONE_TIME << 32 | SERIAL_AT, false, prepare_entered, range_serial },
     { "wait-1us-idle-restored", 300000, K5L_DONE, true, prepare_idle, wait_1 },
     { "wait-1e13us-idle-restored", 300000, K5L_DONE, true, prepare_idle, wait_long },
     { "wait-1us-96-blocks", 300000, K5L_DONE, false, prepare_erase, wait_1 },
@@ -255,14 +179,11 @@ static int measure(const struct kind *kind, const struct side *side, unsigned lo
 {
     double best;
 
-    cells = calloc(K5L_FULL_WORDS, sizeof *cells);
-    if (cells == NULL || events == 0 || k5l_fresh(image, K5L_RECORD_WORDS) != K5L_DONE)
+    if (events == 0 || !sides_fresh())
         return 2;
-    cells[BLANK_AT] = 0xFFFF; /* all others are 0, and take no program */
-    record = model_fresh();
+    cells[BLANK_AT] = otp[SERIAL_AT] = 0xFFFF; /* all others are 0, and take no program */
     kind->prepare(side);
-    memcpy(image_before, image, sizeof image);
-    record_before = record;
+    sides_keep();
     answer = K5L_DONE;
     kind->event(side);
     side->restore();
@@ -290,7 +211,7 @@ int main(int count, char **arguments)
         return 0;
     }
     for (int i = 0; count >= 4 && i < KINDS; i++)
-        for (int j = 0; j < 2; j++)
+        for (int j = 0; j < SIDES; j++)
             if (strcmp(arguments[1], kinds[i].name) == 0 && strcmp(arguments[2], sides[j].name) == 0)
                 return measure(&kinds[i], &sides[j], strtoul(arguments[3], NULL, 0), count > 4 ? atoi(arguments[4]) : 0);
     fprintf(stderr, "speed list | speed KIND library|model N [RUNS]\n");

@@ -5,7 +5,8 @@
 #include <stdbool.h>
 #include <stdint.h>
 
-static uint64_t dice_seed = 1;
+/* 1 unless a test sets another before it throws. */
+extern uint64_t dice_seed;
 
 static inline uint64_t dice(void)
 {

@@ -30,7 +30,8 @@ static void early_refusals(void)
     CHANGES_NOTHING(bus_write(0, 0xF0), K5L_STATE);
     CHANGES_NOTHING(pass(0), K5L_STATE);
     CHANGES_NOTHING(cut(NULL, 0), K5L_STATE);
-    SAME(clock_now() & charge_now() & exposed_block() & exposed_word(), K5L_NONE);
+    SAME(range(0, 0), (uint64_t)K5L_STATE << 33);
+    SAME(clock_now() & charge_now() & exposed_block() & exposed_word() & exposed_array() & changing_array(), K5L_NONE);
     HOLDS(!k5l_sound(part, record, K5L_RECORD_WORDS) && !reads_cells(0));
     fresh();
     SAME(enter(0xA0), K5L_DONE);
@@ -42,6 +43,7 @@ static void early_refusals(void)
     CHANGES_NOTHING(bus_write(0, 0), K5L_CELLS);
     CHANGES_NOTHING(pass(1), K5L_CELLS);
     CHANGES_NOTHING(cut(NULL, 0), K5L_CELLS);
+    SAME(range(0, 0), (uint64_t)K5L_CELLS << 33);
     length++;
     SAME(bus_write(100, 0x1234), K5L_DONE);
     CHANGES_NOTHING(bus_write(100, 0xF0), K5L_BUSY);

@@ -6,6 +6,7 @@
 /* The model counts its commands and operations in the header's order. A recovery is its own operation, in the header a block erase
  * with word 29. */
 _Static_assert(MODEL_PROGRAM_DATA == 3 && MODEL_DYB_DATA == 7 && MODEL_PPB_SET == 9 && MODEL_PROTECTION == 12, "word 3");
+_Static_assert(MODEL_SEAL == 13 && MODEL_SEAL_STATUS == 14 && MODEL_COMMANDS == 15, "word 3");
 _Static_assert(MODEL_PROGRAM == 1 && MODEL_WINDOW == 3 && MODEL_PROGRAM_INSIDE == 6 && MODEL_CHIP_ERASE == 7, "word 5");
 
 void image_encode(const struct model_record *record, uint64_t image[K5L_RECORD_WORDS])
@@ -33,6 +34,8 @@ void image_encode(const struct model_record *record, uint64_t image[K5L_RECORD_W
     memcpy(image + 23, record->ppb.bits, sizeof record->ppb.bits);
     image[28] = record->lock;
     image[29] = record->operation == MODEL_RECOVERY ? record->erase.recovery : 0;
+    image[30] = record->entered;
+    image[31] = record->sealed;
 }
 
 /* What does not fit its field, and what is in no field, is lost on the way in and so missing on the way back. */
@@ -40,7 +43,7 @@ bool image_decode(const uint64_t *image, size_t words, struct model_record *reco
 {
     uint64_t back[K5L_RECORD_WORDS];
 
-    if (words != K5L_RECORD_WORDS || image[3] > MODEL_PROTECTION || image[5] > MODEL_CHIP_ERASE)
+    if (words != K5L_RECORD_WORDS || image[3] >= MODEL_COMMANDS || image[5] > MODEL_CHIP_ERASE)
         return false;
     *record = model_fresh();
     record->clock = image[1];
@@ -61,6 +64,8 @@ bool image_decode(const uint64_t *image, size_t words, struct model_record *reco
     memcpy(record->ppb.bits, image + 23, sizeof record->ppb.bits);
     record->lock = image[28] & 1;
     record->erase.recovery = image[29];
+    record->entered = image[30] & 1;
+    record->sealed = image[31] & 1;
     image_encode(record, back);
     return memcmp(back, image, sizeof back) == 0;
 }

@@ -1,4 +1,4 @@
-/* The header's record, layout 2, as the model's record, and back. */
+/* The header's record, layout 3, as the model's record, and back. */
 #ifndef IMAGE_H
 #define IMAGE_H
 

@@ -1,6 +1,7 @@
 /*
  * Reading the cells directly: a bank of which k5l_reads_cells said yes gives its cells up to the next write, through any reads,
- * waits and cuts; reads there change nothing, and no cell of it changes. Random runs on the small part.
+ * waits and cuts; reads there change nothing, and no cell of it changes. Random runs on the small part, in the one-time block and
+ * outside it: there, bank 1A never gives its cells.
  */
 #include "dice.h"
 #include "driver.h"
@@ -16,11 +17,11 @@ static uint16_t cells_then[K5L_SMALL_WORDS], debris[K5L_SMALL_DEBRIS];
 
 /* How often a wait or a cut ended an operation beside a bank that gave its cells, by the operation; a recovery counts by itself. */
 enum { RECOVERING = CHIP_ERASE + 1 };
-static unsigned long ended[RECOVERING + 1], cut_short[RECOVERING + 1];
+static unsigned long ended[RECOVERING + 1], cut_short[RECOVERING + 1], inside;
 
 static uint64_t operation_now(void) { return record[RECOVERY] != 0 ? RECOVERING : record[OPERATION]; }
 
-static uint64_t some_address(void) { return once_in(3) ? 64 + below(256) : below(length); }
+static uint64_t some_address(void) { return once_in(8) ? 0x1A : once_in(3) ? 64 + below(256) : below(length); }
 
 /* Around the times there are; at times long enough for anything to end. */
 static uint64_t some_wait(void)
@@ -61,6 +62,8 @@ static void stays_allowed(void)
 {
     bool allowed[BANKS], any = false;
 
+    inside += record[ENTERED];
+    HOLDS(record[ENTERED] == 0 || !reads_cells(0));
     for (uint64_t bank = 0; bank < BANKS; bank++)
         any |= allowed[bank] = reads_cells(bank);
     memcpy(cells_then, cells, sizeof cells_then);
@@ -78,15 +81,15 @@ static void stays_allowed(void)
 /* A command, often left half entered; whatever it is answered. */
 static void some_command(void)
 {
-    static const uint16_t thirds[] = { 0xA0, 0xA0, 0x80, 0x80, 0x80, 0x90, 0x58, 0x48, 0x60 };
+    static const uint16_t thirds[] = { 0xA0, 0xA0, 0x80, 0x80, 0x80, 0x90, 0x58, 0x48, 0x60, 0x88 };
     uint16_t third = ONE_OF(thirds);
     uint64_t at = some_address();
     struct { uint64_t at; uint16_t word; } writes[] = {
         { 0x555, 0xAA }, { 0x2AA, 0x55 }, { 0x555 | (at & 0x3800), third },
-        { third == 0x80 ? 0x555 : at, third == 0x80 ? 0xAA : third == 0x60 ? 0x68 : (uint16_t)dice() },
+        { third == 0x80 ? 0x555 : at, third == 0x80 ? 0xAA : third == 0x60 ? (once_in(2) ? 0x68 : 0x48) : (uint16_t)dice() },
         { 0x2AA, 0x55 }, { once_in(8) ? 0x555 : at, 0x30 },
     };
-    unsigned count = third == 0x80 ? 6 : third == 0x90 || third == 0x58 ? 3 : 4;
+    unsigned count = third == 0x80 ? 6 : third == 0x90 || third == 0x58 || third == 0x88 ? 3 : 4;
 
     if (writes[5].at == 0x555)
         writes[5].word = 0x10;
@@ -103,7 +106,7 @@ static void some_write(void)
     static const uint16_t words[] = { 0xB0, 0xB0, 0x30, 0xF0 };
 
     bus_write(some_address(), ONE_OF(words));
-    if (record[OPERATION] == PROGRAM && once_in(10))
+    if (record[OPERATION] == PROGRAM && record[ENTERED] == 0 && once_in(10))
         record[OPERATION] = SUSPENDED_PROGRAM; /* as an older device stored it */
     stays_allowed();
 }
@@ -131,5 +134,6 @@ int main(void)
         HOLDS(operation == SUSPENDED_PROGRAM || operation == SUSPENDED_ERASE || ended[operation] > 50);
         HOLDS(cut_short[operation] > 50);
     }
+    HOLDS(inside > 10000);
     return check_report("mapped");
 }

@@ -49,8 +49,8 @@ static unsigned identity(const struct model_record *record, uint64_t address, ui
     return (address & 0xFF) == 0 ? 0x00EC : (address & 0xFF) == 2 ? model_has(&record->ppb, block) : 0;
 }
 
-/* What a read gives, in the order of document 01, Status words. */
-static unsigned shown(uint64_t part, struct model_record *record, const uint16_t *cells, uint64_t address)
+/* What a read gives, in the order of document 01, Status words; the one-time words are read where cells would be. */
+static unsigned shown(uint64_t part, struct model_record *record, const uint16_t *cells, const uint16_t *otp, uint64_t address)
 {
     uint64_t block = model_block(part, address), bank = model_bank(block);
 
@@ -62,25 +62,33 @@ static unsigned shown(uint64_t part, struct model_record *record, const uint16_t
         return identity(record, address, block);
     if (record->command == MODEL_PROTECTION)
         return model_has(&record->dyb, block) | (unsigned)record->lock << 1;
+    if (record->command == MODEL_SEAL_STATUS)
+        return record->sealed;
     if (model_erase_is_suspended(record) && model_has(&record->erase.list, block))
         return suspended_erase_word(&record->erase);
     if (record->operation == MODEL_SUSPENDED_PROGRAM && block == model_block(part, record->program.at))
         return (~record->program.word & 0x80u) | 0x44;
-    return cells[address];
+    return model_array_of(record, address) == MODEL_ONE_TIME ? otp[address] : cells[address];
 }
 
 struct model_answer model_read(uint64_t part, struct model_record *record, const uint16_t *cells, size_t length,
-                               uint64_t address)
+                               const uint16_t *otp, size_t otp_length, uint64_t address)
 {
-    uint64_t refusal = model_judge(part, record, length);
+    uint64_t refusal = model_judge(part, record, length, otp_length);
 
     if (refusal == MODEL_DONE && address >= length)
         refusal = MODEL_ADDRESS;
-    return (struct model_answer){ refusal, refusal == MODEL_DONE ? (uint16_t)shown(part, record, cells, address) : 0 };
+    return (struct model_answer){ refusal, refusal == MODEL_DONE ? (uint16_t)shown(part, record, cells, otp, address) : 0 };
+}
+
+/* The word that a program is for: the block is neither entered nor left while it runs. */
+static uint16_t *word_of_program(const struct model_record *record, uint16_t *cells, uint16_t *otp)
+{
+    return (model_array_of(record, record->program.at) == MODEL_ONE_TIME ? otp : cells) + record->program.at;
 }
 
 /* Both let time pass for what runs, and give the microseconds that it ran. */
-static uint64_t run_program(struct model_record *record, uint16_t *cells, uint64_t microseconds)
+static uint64_t run_program(struct model_record *record, uint16_t *target, uint64_t microseconds)
 {
     struct model_program *program = &record->program;
     uint64_t left = program->left;
@@ -89,7 +97,7 @@ static uint64_t run_program(struct model_record *record, uint16_t *cells, uint64
         program->left -= microseconds;
         return microseconds;
     }
-    cells[program->at] &= program->word;
+    *target &= program->word;
     record->operation = record->operation == MODEL_PROGRAM_INSIDE ? MODEL_SUSPENDED_ERASE : MODEL_IDLE;
     return left;
 }
@@ -134,16 +142,17 @@ static uint64_t run_recovery(struct model_record *record, uint64_t microseconds)
     return ran;
 }
 
-uint64_t model_wait(uint64_t part, struct model_record *record, uint16_t *cells, size_t length, uint64_t microseconds)
+uint64_t model_wait(uint64_t part, struct model_record *record, uint16_t *cells, size_t length, uint16_t *otp, size_t otp_length,
+                    uint64_t microseconds)
 {
-    uint64_t refusal = model_judge(part, record, length), rest = microseconds, ran = 0;
+    uint64_t refusal = model_judge(part, record, length, otp_length), rest = microseconds, ran = 0;
 
     if (refusal != MODEL_DONE || microseconds > MODEL_CLOCK_LIMIT - record->clock)
         return refusal != MODEL_DONE ? refusal : MODEL_CLOCK;
     if (record->operation == MODEL_WINDOW)
         rest = run_window(record, microseconds);
     if (model_program_runs(record))
-        ran = run_program(record, cells, rest);
+        ran = run_program(record, word_of_program(record, cells, otp), rest);
     else if (model_erase_runs(record))
         ran = run_erase(part, record, cells, rest);
     else if (record->operation == MODEL_RECOVERY)
@@ -164,10 +173,11 @@ static bool program_has_begun(const struct model_record *record)
     return model_has_program(record) && record->program.left < MODEL_PROGRAM_TIME;
 }
 
-uint64_t model_cut(uint64_t part, struct model_record *record, uint16_t *cells, size_t length, const uint16_t *debris,
-                   size_t debris_length)
+/* Document 02, request 4: a cut leaves the one-time block, and its lock as it is. */
+uint64_t model_cut(uint64_t part, struct model_record *record, uint16_t *cells, size_t length, uint16_t *otp, size_t otp_length,
+                   const uint16_t *debris, size_t debris_length)
 {
-    uint64_t refusal = model_judge(part, record, length);
+    uint64_t refusal = model_judge(part, record, length, otp_length);
     size_t of_block = erase_has_begun(record) ? model_block_words(part, record->erase.hand) : 0;
     size_t of_program = program_has_begun(record);
 
@@ -176,11 +186,11 @@ uint64_t model_cut(uint64_t part, struct model_record *record, uint16_t *cells, 
     if (of_block > 0)
         memcpy(cells + model_first_word(part, record->erase.hand), debris, of_block * sizeof *cells);
     if (of_program > 0)
-        cells[record->program.at] &= record->program.word | debris[of_block];
+        *word_of_program(record, cells, otp) &= record->program.word | debris[of_block];
     record->operation = MODEL_IDLE;
     record->command = MODEL_GROUND;
     memset(&record->dyb, 0, sizeof record->dyb);
-    record->lock = false;
+    record->lock = record->entered = false;
     return MODEL_DONE;
 }
 
@@ -198,7 +208,9 @@ bool model_reads_cells(uint64_t part, const struct model_record *record, uint64_
 {
     return bank < MODEL_BANKS && model_sound(part, record)
         && !program_shows(part, record, bank) && !erase_shows(record, bank)
-        && record->command != MODEL_PROTECTION && !(record->command == MODEL_IDENTITY && record->bank == bank)
+        && record->command != MODEL_PROTECTION && record->command != MODEL_SEAL_STATUS
+        && !(record->command == MODEL_IDENTITY && record->bank == bank)
+        && !(record->entered && bank == model_bank(model_block(part, 0)))
         && !(model_erase_is_suspended(record) && model_bank(record->erase.hand) == bank)
         && !(record->operation == MODEL_SUSPENDED_PROGRAM && model_bank(model_block(part, record->program.at)) == bank);
 }

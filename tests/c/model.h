@@ -12,16 +12,20 @@
 #include <stddef.h>
 #include <stdint.h>
 
-/* Document 01, Refusals by number, and document 02. 12 is unused: a record with an operation in a protected block is STATE; so is 13. */
+/* Document 01, Refusals by number, and document 02. 12 is unused: a record with an operation in a protected block is STATE. */
 enum model_refusal {
     MODEL_DONE, MODEL_STATE, MODEL_CELLS, MODEL_ADDRESS, MODEL_CLOCK, MODEL_DEBRIS, MODEL_BUSY, MODEL_SEQUENCE, MODEL_BANK,
     MODEL_PROTECTED, MODEL_SUSPENDED, MODEL_LOCKED,
-    MODEL_RAISE = 14
+    MODEL_OTPLOCKED = 13, MODEL_RAISE
 };
 
 enum model_part { MODEL_SMALL, MODEL_FULL };
 
 enum { MODEL_BLOCKS = 270, MODEL_BANKS = 4, MODEL_SET_WORDS = 5 };
+
+/* Document 02, request 4: the one-time words, in both parts, and the first that is not the factory's; and the two arrays. */
+enum { MODEL_ONE_TIME_WORDS = 256, MODEL_CUSTOMER = 128 };
+enum model_array { MODEL_MAIN, MODEL_ONE_TIME };
 
 /* No block, no word. */
 static const uint64_t MODEL_NONE = UINT64_MAX;
@@ -46,7 +50,9 @@ enum model_command {
     MODEL_ERASE, MODEL_ERASE_FIRST, MODEL_ERASE_SECOND,   /* 80H, and the unlock writes after it */
     MODEL_DYB_DATA,                                       /* 48H */
     MODEL_PPB, MODEL_PPB_SET, MODEL_PPB_CLEAR,            /* 60H; 60H, 68H; 60H, 60H */
-    MODEL_IDENTITY, MODEL_PROTECTION                      /* the readings of 90H and 58H */
+    MODEL_IDENTITY, MODEL_PROTECTION,                     /* the readings of 90H and 58H */
+    MODEL_SEAL, MODEL_SEAL_STATUS,                        /* in the one-time block 60H, and 68H or 48H at its lock's address */
+    MODEL_COMMANDS
 };
 
 enum model_operation {
@@ -73,7 +79,7 @@ struct model_program {
 };
 
 /* `block` is named by 68H and means something in MODEL_PPB_SET alone, `bank` by 90H and in MODEL_IDENTITY alone; `erase` and
- * `program` mean something while the operation has them. */
+ * `program` mean something while the operation has them. `entered`: the one-time block is; `sealed`: the customer's words are locked. */
 struct model_record {
     uint64_t clock, charge;
     enum model_command command;
@@ -82,7 +88,7 @@ struct model_record {
     struct model_erase erase;
     struct model_program program;
     struct model_set dyb, ppb;
-    bool lock;
+    bool lock, entered, sealed;
 };
 
 struct model_answer {
@@ -90,31 +96,42 @@ struct model_answer {
     uint16_t word;
 };
 
+/* A range that is handed back: the array and its first word, both 0 if it is refused. */
+struct model_range {
+    uint64_t refusal, array, first;
+};
+
 struct model_record model_fresh(void);
 bool model_sound(uint64_t part, const struct model_record *record);
 
-/* The four events. A write changes no cell. */
+/* The events. A write changes no word of either array, and a range nothing at all. */
 struct model_answer model_read(uint64_t part, struct model_record *record, const uint16_t *cells, size_t length,
-                               uint64_t address);
-uint64_t model_write(uint64_t part, struct model_record *record, const uint16_t *cells, size_t length, uint64_t address,
-                     uint16_t word);
-uint64_t model_wait(uint64_t part, struct model_record *record, uint16_t *cells, size_t length, uint64_t microseconds);
-uint64_t model_cut(uint64_t part, struct model_record *record, uint16_t *cells, size_t length, const uint16_t *debris,
-                   size_t debris_length);
+                               const uint16_t *otp, size_t otp_length, uint64_t address);
+uint64_t model_write(uint64_t part, struct model_record *record, const uint16_t *cells, size_t length, const uint16_t *otp,
+                     size_t otp_length, uint64_t address, uint16_t word);
+uint64_t model_wait(uint64_t part, struct model_record *record, uint16_t *cells, size_t length, uint16_t *otp, size_t otp_length,
+                    uint64_t microseconds);
+uint64_t model_cut(uint64_t part, struct model_record *record, uint16_t *cells, size_t length, uint16_t *otp, size_t otp_length,
+                   const uint16_t *debris, size_t debris_length);
+struct model_range model_range(uint64_t part, const struct model_record *record, size_t length, size_t otp_length, uint64_t first,
+                               uint64_t count);
 
-/* The block and the word that a cut would change now, or MODEL_NONE. */
+/* The block and the word that a cut would change now, or MODEL_NONE; and the array that the word is of. */
 uint64_t model_exposed_block(uint64_t part, const struct model_record *record);
 uint64_t model_exposed_word(uint64_t part, const struct model_record *record);
+uint64_t model_exposed_array(uint64_t part, const struct model_record *record);
 
-/* Is every read in the bank an array read? Of a number that is no bank's: no. */
+/* Does every read in the bank give its cell? Of a number that is no bank's: no. */
 bool model_reads_cells(uint64_t part, const struct model_record *record, uint64_t bank);
 
 /* What comes if nobody writes: the microseconds until nothing runs, and until the next change; the block or the word that is
- * finished then. And the words of debris that a cut would need now. MODEL_NONE for none, and for a record that is not sound. */
+ * finished then, and the word's array. And the words of debris that a cut would need now. MODEL_NONE for none, and for a record that
+ * is not sound. */
 uint64_t model_until_end(uint64_t part, const struct model_record *record);
 uint64_t model_until_change(uint64_t part, const struct model_record *record);
 uint64_t model_changing_block(uint64_t part, const struct model_record *record);
 uint64_t model_changing_word(uint64_t part, const struct model_record *record);
+uint64_t model_changing_array(uint64_t part, const struct model_record *record);
 uint64_t model_debris_needed(uint64_t part, const struct model_record *record);
 
 /* Block and bank of an address, or MODEL_NONE. */
@@ -125,8 +142,8 @@ uint64_t model_bank_of(uint64_t part, uint64_t address);
 static inline unsigned model_scale(uint64_t part) { return part == MODEL_FULL ? 0 : 9; }
 static inline uint64_t model_words(uint64_t part) { return (uint64_t)8388608 >> model_scale(part); }
 
-/* The two checks that every event begins with. */
-static inline uint64_t model_judge(uint64_t part, const struct model_record *record, size_t length)
+/* The checks that every event begins with: the record, then the cells' length, then that of the one-time words. */
+static inline uint64_t model_judge(uint64_t part, const struct model_record *record, size_t length, size_t otp_length)
 {
 #ifdef MODEL_TRUSTS
     (void)record;
@@ -134,7 +151,7 @@ static inline uint64_t model_judge(uint64_t part, const struct model_record *rec
     if (!model_sound(part, record))
         return MODEL_STATE;
 #endif
-    return length == model_words(part) ? MODEL_DONE : MODEL_CELLS;
+    return length == model_words(part) && otp_length == MODEL_ONE_TIME_WORDS ? MODEL_DONE : MODEL_CELLS;
 }
 
 static inline uint64_t model_block(uint64_t part, uint64_t address)
@@ -250,6 +267,20 @@ static inline uint64_t model_erase_time(const struct model_record *record)
 static inline bool model_is_protected(const struct model_record *record, uint64_t block)
 {
     return model_has(&record->dyb, block) || model_has(&record->ppb, block);
+}
+
+/* Document 02, request 4: while the one-time block is entered it lies over the first words. */
+static inline enum model_array model_array_of(const struct model_record *record, uint64_t address)
+{
+    return record->entered && address < MODEL_ONE_TIME_WORDS ? MODEL_ONE_TIME : MODEL_MAIN;
+}
+
+/* May a program write there? OTPLOCKED stands in the place of PROTECTED, in soundness too: no block protects a one-time word. */
+static inline uint64_t model_forbids(const struct model_record *record, uint64_t address, uint64_t block)
+{
+    if (model_array_of(record, address) == MODEL_ONE_TIME)
+        return address < MODEL_CUSTOMER || record->sealed ? MODEL_OTPLOCKED : MODEL_DONE;
+    return model_is_protected(record, block) ? MODEL_PROTECTED : MODEL_DONE;
 }
 
 #endif

@@ -54,6 +54,22 @@ uint64_t model_changing_word(uint64_t part, const struct model_record *record)
     return model_sound(part, record) && model_program_runs(record) ? record->program.at : MODEL_NONE;
 }
 
+/* The array of a word that one of the questions names. */
+static uint64_t array_of(const struct model_record *record, uint64_t word)
+{
+    return word != MODEL_NONE ? (uint64_t)model_array_of(record, word) : MODEL_NONE;
+}
+
+uint64_t model_exposed_array(uint64_t part, const struct model_record *record)
+{
+    return array_of(record, model_exposed_word(part, record));
+}
+
+uint64_t model_changing_array(uint64_t part, const struct model_record *record)
+{
+    return array_of(record, model_changing_word(part, record));
+}
+
 uint64_t model_debris_needed(uint64_t part, const struct model_record *record)
 {
     uint64_t block = model_exposed_block(part, record), word = model_exposed_word(part, record);

@@ -49,8 +49,10 @@ static uint64_t write_while_busy(struct model_record *record, unsigned data)
 /* `old` is the word as it is lent: a bit of the data that it does not have is refused last (document 02, request 6). */
 static uint64_t start_program(struct model_record *record, uint64_t address, uint64_t block, uint16_t old, uint16_t word)
 {
-    if (model_is_protected(record, block))
-        return enter(record, MODEL_GROUND, MODEL_PROTECTED);
+    uint64_t refusal = model_forbids(record, address, block);
+
+    if (refusal != MODEL_DONE)
+        return enter(record, MODEL_GROUND, refusal);
     if (record->operation == MODEL_SUSPENDED_ERASE && model_has(&record->erase.list, block))
         return enter(record, MODEL_GROUND, MODEL_SUSPENDED);
     if ((word & ~old) != 0)
@@ -96,7 +98,39 @@ static uint64_t change_ppbs(struct model_record *record, bool continues)
     return go_on(record, continues, MODEL_GROUND);
 }
 
-/* The third write, at 555H, where SUSPENDED is judged but for a program into a listed block. */
+/* Document 02, request 4: in the one-time block a write after 60H whose address ends in 1AH is about its lock, and about no PPB. */
+static bool is_at_seal(const struct model_record *record, uint64_t address)
+{
+    return record->entered && (address & 0xFF) == 0x1A;
+}
+
+/* The first of the two writes after 60H. */
+static uint64_t write_after_60h(struct model_record *record, bool at_seal, uint64_t block, unsigned data)
+{
+    record->block = block;
+    if (at_seal)
+        return go_on(record, data == 0x68 || data == 0x48, data == 0x68 ? MODEL_SEAL : MODEL_SEAL_STATUS);
+    return go_on(record, data == 0x68 || data == 0x60, data == 0x68 ? MODEL_PPB_SET : MODEL_PPB_CLEAR);
+}
+
+/* The second one, which locks for ever; the PPB lock bit has no say in it. */
+static uint64_t seal(struct model_record *record, bool continues)
+{
+    record->sealed |= continues;
+    return go_on(record, continues, MODEL_GROUND);
+}
+
+/* Exit, after 90H in the one-time block: 00H anywhere. */
+static uint64_t leave(struct model_record *record, unsigned data)
+{
+    bool leaves = record->entered && data == 0x00;
+
+    record->entered &= !leaves;
+    return go_on(record, leaves, MODEL_GROUND);
+}
+
+/* The third write, at 555H, where SUSPENDED is judged but for a program into a listed block. Nothing is suspended in the one-time
+ * block, so which of SUSPENDED and its SEQUENCE is judged first is no question. */
 static uint64_t write_third(struct model_record *record, uint64_t block, unsigned data)
 {
     bool suspended = model_rests(record);
@@ -106,15 +140,20 @@ static uint64_t write_third(struct model_record *record, uint64_t block, unsigne
     case 0x90: record->bank = model_bank(block); return enter(record, MODEL_IDENTITY, MODEL_DONE);
     case 0x58: return enter(record, MODEL_PROTECTION, MODEL_DONE);
     case 0xA0: suspended = record->operation == MODEL_SUSPENDED_PROGRAM; command = MODEL_PROGRAM_DATA; break;
-    case 0x80: command = MODEL_ERASE; break;
+    case 0x80:
+        if (record->entered)
+            return enter(record, MODEL_GROUND, MODEL_SEQUENCE);
+        command = MODEL_ERASE;
+        break;
     case 0x48: command = MODEL_DYB_DATA; break;
     case 0x60: command = MODEL_PPB; break;
-    case 0x78: break;
+    case 0x78: case 0x88: break;
     default: return enter(record, MODEL_GROUND, MODEL_SEQUENCE);
     }
     if (suspended)
         return enter(record, MODEL_GROUND, MODEL_SUSPENDED);
     record->lock |= data == 0x78;
+    record->entered |= data == 0x88;
     return enter(record, command, MODEL_DONE);
 }
 
@@ -127,11 +166,12 @@ static uint64_t write_first(struct model_record *record, bool unlocks, unsigned 
     return MODEL_DONE;
 }
 
-/* Document 01, Command cycles: addresses are compared on 11 bits, data on 8; the two data cycles come before F0H. */
+/* Document 01, Command cycles: addresses are compared on 11 bits, data on 8; the two data cycles come before F0H, which leaves the
+ * one-time block, too. */
 static uint64_t write_command(struct model_record *record, uint64_t address, uint64_t block, uint16_t old, uint16_t word)
 {
     unsigned data = word & 0xFF, at = address & 0x7FF;
-    bool first = at == 0x555 && data == 0xAA, second = at == 0x2AA && data == 0x55;
+    bool first = at == 0x555 && data == 0xAA, second = at == 0x2AA && data == 0x55, at_seal = is_at_seal(record, address);
 
     if (record->command == MODEL_PROGRAM_DATA)
         return start_program(record, address, block, old, word);
@@ -140,8 +180,10 @@ static uint64_t write_command(struct model_record *record, uint64_t address, uin
             model_put(&record->dyb, block, data & 1);
         return go_on(record, (data & 0x0F) <= 1, MODEL_GROUND);
     }
-    if (data == 0xF0)
+    if (data == 0xF0) {
+        record->entered = false;
         return enter(record, MODEL_GROUND, MODEL_DONE);
+    }
     switch (record->command) {
     case MODEL_GROUND: return write_first(record, first, data);
     case MODEL_FIRST_UNLOCK: return go_on(record, second, MODEL_SECOND_UNLOCK);
@@ -152,19 +194,19 @@ static uint64_t write_command(struct model_record *record, uint64_t address, uin
         if (data == 0x30)
             return start_block_erase(record, block);
         return data == 0x10 && at == 0x555 ? start_chip_erase(record) : go_on(record, false, MODEL_GROUND);
-    case MODEL_PPB:
-        record->block = block;
-        return go_on(record, data == 0x68 || data == 0x60, data == 0x68 ? MODEL_PPB_SET : MODEL_PPB_CLEAR);
-    case MODEL_PPB_SET: return change_ppbs(record, data == 0x48 && block == record->block);
-    case MODEL_PPB_CLEAR: return change_ppbs(record, data == 0x40);
+    case MODEL_PPB: return write_after_60h(record, at_seal, block, data);
+    case MODEL_PPB_SET: return change_ppbs(record, data == 0x48 && !at_seal && block == record->block);
+    case MODEL_PPB_CLEAR: return change_ppbs(record, data == 0x40 && !at_seal);
+    case MODEL_SEAL: return seal(record, data == 0x48 && at_seal);
+    case MODEL_IDENTITY: return leave(record, data);
     default: return go_on(record, false, MODEL_GROUND);
     }
 }
 
-uint64_t model_write(uint64_t part, struct model_record *record, const uint16_t *cells, size_t length, uint64_t address,
-                     uint16_t word)
+uint64_t model_write(uint64_t part, struct model_record *record, const uint16_t *cells, size_t length, const uint16_t *otp,
+                     size_t otp_length, uint64_t address, uint16_t word)
 {
-    uint64_t refusal = model_judge(part, record, length), block;
+    uint64_t refusal = model_judge(part, record, length, otp_length), block;
 
     if (refusal != MODEL_DONE || address >= length)
         return refusal != MODEL_DONE ? refusal : MODEL_ADDRESS;
@@ -173,5 +215,5 @@ uint64_t model_write(uint64_t part, struct model_record *record, const uint16_t 
         return write_in_window(record, block, word & 0xFF);
     if (model_is_busy(record))
         return write_while_busy(record, word & 0xFF);
-    return write_command(record, address, block, cells[address], word);
+    return write_command(record, address, block, model_array_of(record, address) == MODEL_ONE_TIME ? otp[address] : cells[address], word);
 }

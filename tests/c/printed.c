@@ -7,6 +7,10 @@
 
 static uint64_t record[K5L_RECORD_WORDS];
 
+/* Lines that many records end with. */
+#define UNPROTECTED "  DYB 1      none\n  PPB 1      none\n  PPB lock   0\n"
+#define NOT_ENTERED "  OTP block  not entered\n  OTP lock   0\n"
+
 static FILE *nameless_file(void)
 {
     FILE *file = tmpfile();
@@ -57,18 +61,21 @@ static void idle(void)
            "  charge     0 pC\n"
            "  command    ground\n"
            "  operation  none\n"
-           "  DYB 1      none\n"
-           "  PPB 1      none\n"
-           "  PPB lock   0\n");
+           UNPROTECTED NOT_ENTERED);
     prints(2, K5L_RECORD_WORDS - 1,
            "record of part 2 (which is none), not sound: every event is STATE\n"
-           "  29 words, where a record has 30\n");
+           "  31 words, where a record has 32\n");
     record[0] = 1;
     prints(K5L_SMALL, 29,
            "record of part 0 (small), not sound: every event is STATE\n"
-           "  29 words, where a record has 30\n"
+           "  29 words, where a record has 32\n"
            "  layout     1: k5l_carry makes a record of it\n");
     record[0] = 2;
+    prints(K5L_SMALL, 30,
+           "record of part 0 (small), not sound: every event is STATE\n"
+           "  30 words, where a record has 32\n"
+           "  layout     2: k5l_carry makes a record of it\n");
+    record[0] = 3;
     record[3] = 11;
     record[4] = 2;
     record[28] = 1;
@@ -80,7 +87,8 @@ static void idle(void)
            "  operation  none\n"
            "  DYB 1      none\n"
            "  PPB 1      none\n"
-           "  PPB lock   1\n");
+           "  PPB lock   1\n"
+           NOT_ENTERED);
 }
 
 /* Blocks 39 to 41 and 64 listed, a program of 12H at 5. */
@@ -115,7 +123,8 @@ static void erase_with_a_program(void)
            "  program    0012H at 5, 3 us left, DQ6 1\n"
            "  DYB 1      8-15\n"
            "  PPB 1      63, 65, 269\n"
-           "  PPB lock   0\n");
+           "  PPB lock   0\n"
+           NOT_ENTERED);
 }
 
 static void window(void)
@@ -134,9 +143,7 @@ static void window(void)
            "  listed     8\n"
            "  in hand    8, 49 us left of the window\n"
            "  toggles    DQ6 0, DQ2 0\n"
-           "  DYB 1      none\n"
-           "  PPB 1      none\n"
-           "  PPB lock   0\n");
+           UNPROTECTED NOT_ENTERED);
 }
 
 /* In recovery, sound and too long; then the same word where it is not in use. */
@@ -161,21 +168,46 @@ static void recovery(void)
            "  in hand    8, 699000 us left\n"
            "  recovery   13 us left\n"
            "  toggles    DQ6 1, DQ2 0\n"
-           "  DYB 1      none\n"
-           "  PPB 1      none\n"
-           "  PPB lock   0\n");
+           UNPROTECTED NOT_ENTERED);
     record[29] = 21;
     prints_line("  recovery   21 us left, where 20 are the most\n");
     record[5] = 5;
     prints_line("  word 29    15H, and it is not in use\n");
 }
 
+/* A program of 1234H at one-time word 200, then at 256, a cell; both numbers of the block, and numbers that are none. */
+static void one_time(void)
+{
+    SAME(k5l_fresh(record, K5L_RECORD_WORDS), K5L_DONE);
+    record[5] = 1;
+    record[14] = 200;
+    record[15] = 0x1234;
+    record[16] = 6;
+    record[30] = 1;
+    prints(K5L_FULL, K5L_RECORD_WORDS,
+           "record of part 1 (full), sound\n"
+           "  clock      0 us\n"
+           "  charge     0 pC\n"
+           "  command    ground\n"
+           "  operation  program\n"
+           "  program    1234H at one-time word 200, 6 us left, DQ6 0\n"
+           UNPROTECTED
+           "  OTP block  entered\n"
+           "  OTP lock   0\n");
+    record[14] = 256;
+    record[31] = 1;
+    prints_line("  program    1234H at 256, 6 us left, DQ6 0\n");
+    prints_line("  OTP block  entered\n  OTP lock   1\n");
+    record[30] = record[31] = 2;
+    prints_line("  OTP block  2, which is none\n  OTP lock   2\n");
+}
+
 /* Whatever stands in the words is shown. */
 static void not_sound(void)
 {
     SAME(k5l_fresh(record, K5L_RECORD_WORDS), K5L_DONE);
-    record[0] = 3;
-    record[3] = 13;
+    record[0] = 4;
+    record[3] = 15;
     record[4] = 1;
     record[5] = 4;
     record[13] = 7;
@@ -184,10 +216,10 @@ static void not_sound(void)
     record[28] = 2;
     prints(K5L_SMALL, K5L_RECORD_WORDS,
            "record of part 0 (small), not sound: every event is STATE\n"
-           "  layout     3, where 2 is known\n"
+           "  layout     4, where 3 is known\n"
            "  clock      0 us\n"
            "  charge     0 pC\n"
-           "  command    13, which is none\n"
+           "  command    15, which is none\n"
            "  word 4     1H, and it is not in use\n"
            "  operation  block erase\n"
            "  listed     none\n"
@@ -197,7 +229,8 @@ static void not_sound(void)
            "  word 14    ABCH, and it is not in use\n"
            "  DYB 1      256-319\n"
            "  PPB 1      none\n"
-           "  PPB lock   2\n");
+           "  PPB lock   2\n"
+           NOT_ENTERED);
 }
 
 /* The device after some writes, from fresh: what is printed must have a line with these words. */
@@ -223,6 +256,10 @@ static const struct written cases[] = {
     { "60H and 60H taken", 0, 4, { UNLOCKS, { 0x555, 0x60 }, { 64, 0x60 } } },
     { "identity reading (90H), bank 1", 0, 3, { UNLOCKS, { 0xD55, 0x90 } } },
     { "58H reading", 0, 3, { UNLOCKS, { 0x555, 0x58 } } },
+    { "OTP block  entered", 0, 3, { UNLOCKS, { 0x555, 0x88 } } },
+    { "60H and 68H of the OTP lock taken", 0, 7, { UNLOCKS, { 0x555, 0x88 }, UNLOCKS, { 0x555, 0x60 }, { 0x51A, 0x68 } } },
+    { "reading of the OTP lock (60H, 48H)", 0, 7, { UNLOCKS, { 0x555, 0x88 }, UNLOCKS, { 0x555, 0x60 }, { 0x1A, 0x48 } } },
+    { "OTP lock   1", 0, 8, { UNLOCKS, { 0x555, 0x88 }, UNLOCKS, { 0x555, 0x60 }, { 0x1A, 0x68 }, { 0x1A, 0x48 } } },
     { " program", 0, 4, { UNLOCKS, { 0x555, 0xA0 }, { 64, 0 } } },
     { "block erase in its window", 49, 6, { UNLOCKS, { 0x555, 0x80 }, UNLOCKS, { 64, 0x30 } } },
     { " block erase", 50, 6, { UNLOCKS, { 0x555, 0x80 }, UNLOCKS, { 64, 0x30 } } },
@@ -232,24 +269,18 @@ static const struct written cases[] = {
 
 static void named(const struct written *told)
 {
-    static uint16_t cells[K5L_SMALL_WORDS];
-    FILE *out = nameless_file();
-    char line[256];
+    static uint16_t cells[K5L_SMALL_WORDS], otp[K5L_OTP_WORDS];
     bool found = false;
 
     SAME(k5l_fresh(record, K5L_RECORD_WORDS), K5L_DONE);
     for (unsigned i = 0; i < told->count; i++)
-        SAME(k5l_write(K5L_SMALL, record, K5L_RECORD_WORDS, cells, K5L_SMALL_WORDS, told->writes[i].at, told->writes[i].word),
+        SAME(k5l_write(K5L_SMALL, record, K5L_RECORD_WORDS, cells, K5L_SMALL_WORDS, otp, K5L_OTP_WORDS, told->writes[i].at,
+                       told->writes[i].word),
              K5L_DONE);
-    SAME(k5l_wait(K5L_SMALL, record, K5L_RECORD_WORDS, cells, K5L_SMALL_WORDS, told->wait), K5L_DONE);
-    k5l_print_record(out, K5L_SMALL, record, K5L_RECORD_WORDS);
-    rewind(out);
-    while (fgets(line, sizeof line, out) != NULL) {
-        char *ends = strstr(line, told->words);
-
-        found |= ends != NULL && (ends[strlen(told->words)] == '\n' || ends[strlen(told->words)] == ',');
-    }
-    fclose(out);
+    SAME(k5l_wait(K5L_SMALL, record, K5L_RECORD_WORDS, cells, K5L_SMALL_WORDS, otp, K5L_OTP_WORDS, told->wait), K5L_DONE);
+    print(K5L_SMALL, K5L_RECORD_WORDS);
+    for (const char *at = strstr(got, told->words); at != NULL; at = strstr(at + 1, told->words))
+        found |= at[strlen(told->words)] == '\n' || at[strlen(told->words)] == ',';
     if (!HOLDS(found))
         check_note("  %s\n", told->words);
 }
@@ -260,6 +291,7 @@ int main(void)
     erase_with_a_program();
     window();
     recovery();
+    one_time();
     not_sound();
     for (unsigned i = 0; i < sizeof cases / sizeof *cases; i++)
         named(&cases[i]);

@@ -254,13 +254,14 @@ static void soundness(void)
         HOLDS(is_sound_with(RECOVERY, left));
     for (unsigned i = 0; i < sizeof longer / sizeof *longer; i++)
         HOLDS(!is_sound_with(RECOVERY, longer[i]));
-    for (uint64_t command = 1; command <= 13; command++)
+    for (uint64_t command = 1; command <= 15; command++)
         HOLDS(!is_sound_with(COMMAND, command));
     for (uint64_t operation = 0; operation <= 8; operation++)
         SAME(is_sound_with(OPERATION, operation), operation == BLOCK_ERASE);
     HOLDS(is_sound_with(LEFT, 1) && is_sound_with(LEFT, 700000) && !is_sound_with(LEFT, 0) && !is_sound_with(LEFT, 700001));
     HOLDS(!is_sound_with(HAND, 40) && !is_sound_with(LIST, 1) && !is_sound_with(DYBS, (uint64_t)1 << 39));
-    HOLDS(!is_sound_with(0, 1) && !is_sound_with(0, 3));
+    HOLDS(!is_sound_with(ENTERED, 1) && is_sound_with(OTP_LOCK, 1));
+    HOLDS(!is_sound_with(0, 1) && !is_sound_with(0, 2) && !is_sound_with(0, 4));
 }
 
 int main(void)

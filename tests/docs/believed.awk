@@ -153,7 +153,7 @@ function locals(f,    i, line, p) {
         line = text[$0, i]
         if (line ~ /^pub (struct|enum) /) { split(line, p, /[ {]/); type_in[crate_of($0), p[3]] = $0; type_at[crate_of($0), p[3]] = i }
         if (line ~ /^ *pub (extern "C" )?fn /) {
-            name = line; sub(/.*fn /, "", name); sub(/[(].*/, "", name)
+            name = line; sub(/.*fn /, "", name); sub(/[(<].*/, "", name)
             function_in[crate_of($0), name] = $0; function_at[$0, name] = i; public[$0] = public[$0] " " name
         }
     }

@@ -17,20 +17,20 @@ pub enum Sight {
     Shown(Seen),
 }
 
-pub fn read(part: Part, device: Device, cells: &[u16], address: usize) -> Sight
-    ensures { λ r. ⌜ sighted device r ≡ readEvent part device (lent (now (cells .entry))) address .answer ⌝ }
+pub fn read(part: Part, device: Device, cells: &[u16], otp: &[u16], address: usize) -> Sight
+    ensures { λ r. ⌜ sighted device r ≡ readEvent part device (lent (now (cells .entry)) (now (otp .entry))) address .answer ⌝ }
 {
-    let entry = judged::entry(part, soundness::is_sound(part, device), cells);
+    let entry = judged::entry(part, soundness::is_sound(part, device), cells, otp);
     match entry {
         Entry::Barred(refusal) => Sight::Refused(refusal),
-        Entry::Admitted => admitted_read(part, device, cells, address),
+        Entry::Admitted => admitted_read(part, device, cells, otp, address),
     }
 }
 
-// Once the record is sound and the cells are whole.
-fn admitted_read(part: Part, device: Device, cells: &[u16], address: usize) -> Sight
-    requires { ⌜ Fit part device (lent (now cells)) ⌝ }
-    ensures { λ r. ⌜ sighted device r ≡ readEvent part device (lent (now (cells .entry))) address .answer ⌝ }
+// Once the record is sound and what is lent is whole.
+fn admitted_read(part: Part, device: Device, cells: &[u16], otp: &[u16], address: usize) -> Sight
+    requires { ⌜ Fit part device (lent (now cells) (now otp)) ⌝ }
+    ensures { λ r. ⌜ sighted device r ≡ readEvent part device (lent (now (cells .entry)) (now (otp .entry))) address .answer ⌝ }
 {
     if part.words() <= address {
         return Sight::Refused(Refusal::Address);
@@ -38,23 +38,37 @@ fn admitted_read(part: Part, device: Device, cells: &[u16], address: usize) -> S
     let command = device.command;
     let operation = device.operation;
     let bits = device.bits;
-    Sight::Shown(reading::look(part, bits, command, operation, cells, address))
+    Sight::Shown(reading::look(part, bits, command, operation, cells, otp, address))
 }
 
 // A write alters no cell: their length is judged, and by A0H's data cycle the word that it would program.
-pub fn write(part: Part, device: Device, cells: &[u16], address: usize, word: u16) -> Effect
-    ensures { λ r. ⌜ effected device r ≡ writeEvent part device (lent (now (cells .entry))) address word .answer ⌝ }
+pub fn write(
+    part: Part,
+    device: Device,
+    cells: &[u16],
+    otp: &[u16],
+    address: usize,
+    word: u16,
+) -> Effect
+    ensures { λ r. ⌜ effected device r ≡ writeEvent part device (lent (now (cells .entry)) (now (otp .entry))) address word .answer ⌝ }
 {
-    let entry = judged::entry(part, soundness::is_sound(part, device), cells);
+    let entry = judged::entry(part, soundness::is_sound(part, device), cells, otp);
     match entry {
         Entry::Barred(refusal) => Effect::Stays(refusal),
-        Entry::Admitted => admitted_write(part, device, cells, address, word),
+        Entry::Admitted => admitted_write(part, device, cells, otp, address, word),
     }
 }
 
-fn admitted_write(part: Part, device: Device, cells: &[u16], address: usize, word: u16) -> Effect
-    requires { ⌜ Fit part device (lent (now cells)) ⌝ }
-    ensures { λ r. ⌜ effected device r ≡ writeEvent part device (lent (now (cells .entry))) address word .answer ⌝ }
+fn admitted_write(
+    part: Part,
+    device: Device,
+    cells: &[u16],
+    otp: &[u16],
+    address: usize,
+    word: u16,
+) -> Effect
+    requires { ⌜ Fit part device (lent (now cells) (now otp)) ⌝ }
+    ensures { λ r. ⌜ effected device r ≡ writeEvent part device (lent (now (cells .entry)) (now (otp .entry))) address word .answer ⌝ }
 {
     if part.words() <= address {
         return Effect::Stays(Refusal::Address);
@@ -62,5 +76,5 @@ fn admitted_write(part: Part, device: Device, cells: &[u16], address: usize, wor
     let command = device.command;
     let operation = device.operation;
     let bits = device.bits;
-    register::written(part, bits, operation, command, cells, address, word)
+    register::written(part, bits, operation, command, cells, otp, address, word)
 }

@@ -1,8 +1,9 @@
-// The four events on the small part, each done and told: its lines are put into a lent buffer from `at` on.
+// The events on the small part, each done and told: its lines are put into a lent buffer from `at` on.
 ghost use mathlib.Core.Path.{_≡_};
 ghost use Prim.Native.Nat.{_+_, _≤_};
 ghost use lib.ListN.{length};
-ghost use Rattle.language.specs.Language.{read as Line·read, write as Line·write, wait as Line·wait, cut as Line·cut};
+ghost use Rattle.language.specs.Language.{read as Line·read, write as Line·write, wait as Line·wait, cut as Line·cut, range as Line·range};
+ghost use Rattle.plain.specs.Lent.{lent};
 ghost use Rattle.printing.specs.Put.{Put};
 ghost use Rattle.deeds.specs.Deeds.{does};
 ghost use Rattle.deeds.specs.Tells.{tells, answerLine, lastLine};
@@ -19,24 +20,26 @@ pub struct Told {
 pub fn read(
     device: Device,
     cells: &[u16],
+    otp: &[u16],
     address: usize,
     line: u64,
     out: &mut [u8],
     at: usize,
 ) -> Told
     requires { ⌜ at + 99 ≤ length (now out) ⌝ }
-    ensures { λ r. ⌜ r .device ≡ does (Line·read address) device (now (cells .entry)) .device ⌝ }
-    ensures { λ r. ⌜ Put (now (out .entry)) at (now (out .exit)) (r .end) (tells (Line·read address) line device (now (cells .entry))) ⌝ }
+    ensures { λ r. ⌜ r .device ≡ does (Line·read address) device (lent (now (cells .entry)) (now (otp .entry))) .device ⌝ }
+    ensures { λ r. ⌜ Put (now (out .entry)) at (now (out .exit)) (r .end) (tells (Line·read address) line device (lent (now (cells .entry)) (now (otp .entry)))) ⌝ }
     ensures { λ r. ⌜ r .end ≤ at + 99 ⌝ }
 {
     let part = Part::small();
-    let answer = machine::read(part, device, cells, address);
+    let answer = machine::read(part, device, cells, otp, address);
     answered(answer, line, out, at)
 }
 
 pub fn write(
     device: Device,
     cells: &[u16],
+    otp: &[u16],
     address: usize,
     word: u16,
     line: u64,
@@ -44,31 +47,33 @@ pub fn write(
     at: usize,
 ) -> Told
     requires { ⌜ at + 99 ≤ length (now out) ⌝ }
-    ensures { λ r. ⌜ r .device ≡ does (Line·write address word) device (now (cells .entry)) .device ⌝ }
-    ensures { λ r. ⌜ Put (now (out .entry)) at (now (out .exit)) (r .end) (tells (Line·write address word) line device (now (cells .entry))) ⌝ }
+    ensures { λ r. ⌜ r .device ≡ does (Line·write address word) device (lent (now (cells .entry)) (now (otp .entry))) .device ⌝ }
+    ensures { λ r. ⌜ Put (now (out .entry)) at (now (out .exit)) (r .end) (tells (Line·write address word) line device (lent (now (cells .entry)) (now (otp .entry)))) ⌝ }
     ensures { λ r. ⌜ r .end ≤ at + 99 ⌝ }
 {
     let part = Part::small();
-    let answer = machine::write(part, device, cells, address, word);
+    let answer = machine::write(part, device, cells, otp, address, word);
     answered(answer, line, out, at)
 }
 
 pub fn wait(
     device: Device,
     cells: &mut [u16],
+    otp: &mut [u16],
     microseconds: u64,
     line: u64,
     out: &mut [u8],
     at: usize,
 ) -> Told
     requires { ⌜ at + 99 ≤ length (now out) ⌝ }
-    ensures { λ r. ⌜ r .device ≡ does (Line·wait microseconds) device (now (cells .entry)) .device ⌝ }
-    ensures { λ r. ⌜ now (cells .exit) ≡ does (Line·wait microseconds) device (now (cells .entry)) .cells ⌝ }
-    ensures { λ r. ⌜ Put (now (out .entry)) at (now (out .exit)) (r .end) (tells (Line·wait microseconds) line device (now (cells .entry))) ⌝ }
+    ensures { λ r. ⌜ r .device ≡ does (Line·wait microseconds) device (lent (now (cells .entry)) (now (otp .entry))) .device ⌝ }
+    ensures { λ r. ⌜ now (cells .exit) ≡ does (Line·wait microseconds) device (lent (now (cells .entry)) (now (otp .entry))) .lent .cells ⌝ }
+    ensures { λ r. ⌜ now (otp .exit) ≡ does (Line·wait microseconds) device (lent (now (cells .entry)) (now (otp .entry))) .lent .otp ⌝ }
+    ensures { λ r. ⌜ Put (now (out .entry)) at (now (out .exit)) (r .end) (tells (Line·wait microseconds) line device (lent (now (cells .entry)) (now (otp .entry)))) ⌝ }
     ensures { λ r. ⌜ r .end ≤ at + 99 ⌝ }
 {
     let part = Part::small();
-    let answer = machine::wait(part, device, cells, microseconds);
+    let answer = machine::wait(part, device, cells, otp, microseconds);
     answered(answer, line, out, at)
 }
 
@@ -76,23 +81,25 @@ pub fn wait(
 pub fn cut(
     device: Device,
     cells: &mut [u16],
+    otp: &mut [u16],
     debris: &[u16],
     line: u64,
     out: &mut [u8],
     at: usize,
 ) -> Told
     requires { ⌜ at + 246 ≤ length (now out) ⌝ }
-    ensures { λ r. ⌜ r .device ≡ does (Line·cut (now (debris .entry))) device (now (cells .entry)) .device ⌝ }
-    ensures { λ r. ⌜ now (cells .exit) ≡ does (Line·cut (now (debris .entry))) device (now (cells .entry)) .cells ⌝ }
-    ensures { λ r. ⌜ Put (now (out .entry)) at (now (out .exit)) (r .end) (tells (Line·cut (now (debris .entry))) line device (now (cells .entry))) ⌝ }
+    ensures { λ r. ⌜ r .device ≡ does (Line·cut (now (debris .entry))) device (lent (now (cells .entry)) (now (otp .entry))) .device ⌝ }
+    ensures { λ r. ⌜ now (cells .exit) ≡ does (Line·cut (now (debris .entry))) device (lent (now (cells .entry)) (now (otp .entry))) .lent .cells ⌝ }
+    ensures { λ r. ⌜ now (otp .exit) ≡ does (Line·cut (now (debris .entry))) device (lent (now (cells .entry)) (now (otp .entry))) .lent .otp ⌝ }
+    ensures { λ r. ⌜ Put (now (out .entry)) at (now (out .exit)) (r .end) (tells (Line·cut (now (debris .entry))) line device (lent (now (cells .entry)) (now (otp .entry)))) ⌝ }
     ensures { λ r. ⌜ r .end ≤ at + 246 ⌝ }
 {
     let part = Part::small();
     let exposed = machine::exposed(part, device);
     let block = exposed.block;
     let word = exposed.word;
-    let before = exceptions::cell_at(cells, word);
-    let answer = machine::cut(part, device, cells, debris);
+    let before = exceptions::word_at(cells, otp, word);
+    let answer = machine::cut(part, device, cells, otp, debris);
     let refusal = answer.refusal;
     let told = answered(answer, line, out, at);
     if answers::number_of(refusal) != 0 {
@@ -100,11 +107,45 @@ pub fn cut(
     }
     let left = told.device;
     let told_to = told.end;
-    let after = exceptions::cell_at(cells, word);
+    let after = exceptions::word_at(cells, otp, word);
     let behind = exceptions::block(out, told_to, line, block);
     let end = exceptions::word(out, behind, line, word, before, after);
     Told {
         device: left,
+        end: end,
+    }
+}
+
+// "The word of a range is 0000; after DONE a line tells what it handed back."
+pub fn range<'a>(
+    device: Device,
+    cells: &'a [u16],
+    otp: &'a [u16],
+    first: usize,
+    count: usize,
+    line: u64,
+    out: &mut [u8],
+    at: usize,
+) -> Told
+    requires { ⌜ at + 209 ≤ length (now out) ⌝ }
+    ensures { λ r. ⌜ r .device ≡ does (Line·range first count) device (lent (now (cells .entry)) (now (otp .entry))) .device ⌝ }
+    ensures { λ r. ⌜ Put (now (out .entry)) at (now (out .exit)) (r .end) (tells (Line·range first count) line device (lent (now (cells .entry)) (now (otp .entry)))) ⌝ }
+    ensures { λ r. ⌜ r .end ≤ at + 209 ⌝ }
+{
+    let part = Part::small();
+    let refusal = machine::range_refusal(part, device, cells, otp, first, count);
+    let answer = answers::refused(refusal, device);
+    let told = answered(answer, line, out, at);
+    if answers::number_of(refusal) != 0 {
+        return told;
+    }
+    let told_to = told.end;
+    let words = machine::range(part, device, cells, otp, first, count);
+    let s = sums::sums_of(words);
+    let array = machine::range_array(device, first);
+    let end = telling::range(out, told_to, line, array, first, count, s.first, s.second);
+    Told {
+        device: device,
         end: end,
     }
 }
@@ -134,13 +175,23 @@ fn answered(answer: Answer, line: u64, out: &mut [u8], at: usize) -> Told
     }
 }
 
-// "At the end, `end CLOCK CHARGE S1 S2`."
-pub fn last(device: Device, cells: &[u16], out: &mut [u8], at: usize) -> usize
-    requires { ⌜ at + 88 ≤ length (now out) ⌝ }
-    ensures { λ r. ⌜ Put (now (out .entry)) at (now (out .exit)) r (lastLine device (now (cells .entry))) ⌝ }
-    ensures { λ r. ⌜ r ≤ at + 88 ⌝ }
+// "At the end, `end CLOCK CHARGE S1 S2 O1 O2`."
+pub fn last(device: Device, cells: &[u16], otp: &[u16], out: &mut [u8], at: usize) -> usize
+    requires { ⌜ at + 130 ≤ length (now out) ⌝ }
+    ensures { λ r. ⌜ Put (now (out .entry)) at (now (out .exit)) r (lastLine device (lent (now (cells .entry)) (now (otp .entry)))) ⌝ }
+    ensures { λ r. ⌜ r ≤ at + 130 ⌝ }
 {
     let meter = device.meter;
     let sums = sums::sums_of(cells);
-    telling::end(out, at, meter.clock, meter.charge, sums.first, sums.second)
+    let otp_sums = sums::sums_of(otp);
+    telling::end(
+        out,
+        at,
+        meter.clock,
+        meter.charge,
+        sums.first,
+        sums.second,
+        otp_sums.first,
+        otp_sums.second,
+    )
 }

@@ -63,6 +63,7 @@ pub fn number_of(refusal: Refusal) -> u64
         Refusal::Protected => 9,
         Refusal::Suspended => 10,
         Refusal::Locked => 11,
+        Refusal::OtpLocked => 13,
         Refusal::Raise => 14,
     }
 }

@@ -11,10 +11,10 @@ use Rattle.plain.specs.Sound.{sound}
 use Rattle.plain.proofs.Tools.{by-cases}
 use Rattle.layout.specs.Image.{deviceOf, idleWords}
 use Rattle.layout.proofs.Idle.{idle-device}
-use Rattle.face.specs.Face.{partNamed, stands, standsSound, none, placeNumber}
+use Rattle.face.specs.Face.{partNamed, stands, standsSound, none, placeNumber, spotNumber, spotArray}
 use Rattle.mapping.specs.Mapped.{readingIn, runsIn, restsIn, givesCells}
 use Rattle.judged.specs.Asked.{exposedNow, readsCells}
-use Rattle.asked.specs.Asked.{faceExposedBlock, faceExposedWord, faceReadsCells}
+use Rattle.asked.specs.Asked.{faceExposedBlock, faceExposedWord, faceExposedArray, faceReadsCells}
 
 and-true : (b : Bool) → (b && true) ≡ b
 and-true b = by-cases b (λ e. rw e) (λ e. rw e)
@@ -28,8 +28,15 @@ module _ (part : ℕ) (i : List ℕ) (idle : idleWords i ≡ true) where
       (λ s. rw s)
 
   pub no-word : faceExposedWord part i ≡ none
-  unfolding faceExposedWord exposedNow begunProgram wordOf placeNumber
+  unfolding faceExposedWord exposedNow begunProgram wordOf spotNumber
   no-word =
+      by-cases (stands part i)
+      (λ s. by-cases (sound (partNamed part) (deviceOf i)) (λ t. rw (s, t, idle-device i idle)) (λ t. rw (s, t)))
+      (λ s. rw s)
+
+  pub no-array : faceExposedArray part i ≡ none
+  unfolding faceExposedArray exposedNow begunProgram wordOf spotArray
+  no-array =
       by-cases (stands part i)
       (λ s. by-cases (sound (partNamed part) (deviceOf i)) (λ t. rw (s, t, idle-device i idle)) (λ t. rw (s, t)))
       (λ s. rw s)

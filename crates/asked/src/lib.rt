@@ -1,10 +1,11 @@
 // What C asks of a record besides its four events. An idle device is asked by a way of its own, as the most common case.
 ghost use mathlib.Core.Path.{_≡_};
-ghost use Rattle.face.specs.Face.{standsSound, placeNumber, faceClock, faceCharge};
-ghost use Rattle.asked.specs.Asked.{faceExposedBlock, faceExposedWord, faceReadsCells};
+ghost use Rattle.face.specs.Face.{standsSound, placeNumber, spotNumber, spotArray, faceClock, faceCharge};
+ghost use Rattle.asked.specs.Asked.{faceExposedBlock, faceExposedWord, faceExposedArray, faceReadsCells};
 use plain::Place;
+use plain::Spot;
 
-// No block, no word, no clock, no charge.
+// No block, no word, no array, no clock, no charge.
 const NONE: u64 = 0xffffffffffffffff;
 
 pub fn is_sound(part: u64, words: &[u64]) -> bool
@@ -35,6 +36,26 @@ fn place_number(place: Place) -> u64
     }
 }
 
+// Of a word, its address
+fn spot_number(spot: Spot) -> u64
+    ensures { λ r. ⌜ r ≡ spotNumber spot ⌝ }
+{
+    match spot {
+        Spot::NoWord => NONE,
+        Spot::In(_, at) => at as u64,
+    }
+}
+
+// and its array.
+fn spot_array(spot: Spot) -> u64
+    ensures { λ r. ⌜ r ≡ spotArray spot ⌝ }
+{
+    match spot {
+        Spot::NoWord => NONE,
+        Spot::In(array, _) => calls::array_number(array),
+    }
+}
+
 pub fn exposed_block(part: u64, words: &[u64]) -> u64
     ensures { λ r. ⌜ r ≡ faceExposedBlock part (now (words .entry)) ⌝ }
 {
@@ -61,7 +82,21 @@ pub fn exposed_word(part: u64, words: &[u64]) -> u64
     }
     let exposed = judged::exposed(calls::part_named(part), image::device_of(words));
     let word = exposed.word;
-    place_number(word)
+    spot_number(word)
+}
+
+pub fn exposed_array(part: u64, words: &[u64]) -> u64
+    ensures { λ r. ⌜ r ≡ faceExposedArray part (now (words .entry)) ⌝ }
+{
+    if image::is_idle(words) {
+        return NONE;
+    }
+    if !calls::stands(part, words) {
+        return NONE;
+    }
+    let exposed = judged::exposed(calls::part_named(part), image::device_of(words));
+    let spot = exposed.word;
+    spot_array(spot)
 }
 
 pub fn reads_cells(part: u64, words: &[u64], bank: usize) -> bool

@@ -1,20 +1,24 @@
 -- What `machine::exposed` and `machine::reads_cells` tell is so.
 use Prim.Native.Nat.{ℕ, _<_, _≤_}
 use mathlib.Core.Path.{_≡_, refl, sym, ap, _∙_}
-use mathlib.Core.Bool.{true}
+use mathlib.Core.Bool.{true, false}
 use mathlib.Core.List.{List}
 use lib.ListN.{length}
 use borrow.Author.Tests.{ltb-false}
 use Rattle.geometry.specs.declared.Part.{Part}
-use Rattle.geometry.specs.Parts.{wordCount, blockOf, bankOf}
+use Rattle.geometry.specs.Parts.{wordCount, bankOf}
+use Rattle.plain.specs.declared.Array.{Array}
+use Rattle.plain.specs.declared.Array.the-variants.{Main}
 use Rattle.plain.specs.declared.Refusal.the-variants.{Done, Debris}
 use Rattle.plain.specs.declared.Written.{Written}
 use Rattle.plain.specs.declared.Place.the-variants.{At}
+use Rattle.plain.specs.declared.Spot.the-variants.{In}
 use Rattle.plain.specs.declared.BegunProgram.{BegunProgram}
 use Rattle.plain.specs.declared.BegunProgram.the-variants.{Writes}
 use Rattle.plain.specs.declared.Device.{Device}
-use Rattle.plain.specs.Lent.{Lent, cellAt}
-use Rattle.plain.specs.Programs.{writes, firstWord}
+use Rattle.plain.specs.Holds.{inBlock}
+use Rattle.plain.specs.Lent.{Lent, wordAt, Whole}
+use Rattle.plain.specs.Programs.{writes, firstWord, arrayWritten}
 use Rattle.plain.specs.Record.{answer}
 use Rattle.plain.specs.Sound.{sound}
 use Rattle.plain.specs.Cut.{wordOf, begunProgram, debrisNeeded, cutLent}
@@ -34,7 +38,7 @@ use Rattle.judged.specs.Asked.{exposedNow, readsCells}
 use Rattle.audit.specs.Promises.{Spared, ReadsCells}
 use Rattle.audit.proofs.Same.{allowed-is}
 
--- ---- no accepted cut changes a cell outside what `exposed` tells
+-- ---- no accepted cut changes a word outside what `exposed` tells
 
 -- of a sound record it tells what has begun
 exposed-told : (p : Part) (r : Device) → sound p r ≡ true → exposedNow p r ≡ exposedBy p (r .operation)
@@ -42,34 +46,36 @@ unfolding exposedNow
 exposed-told p r s = rw s
 
 -- the word that a begun program is named by is all that it writes
-named : (p : Part) (w : BegunProgram) (d : Written) (x : ℕ) → w ≡ Writes d → writes d x ≡ true → wordOf w ≡ At x
+named : (p : Part) (w : BegunProgram) (d : Written) (y : Array) (x : ℕ) → w ≡ Writes d → writes d y x ≡ true → wordOf w ≡ In y x
 unfolding wordOf
-named p w d x e h = rw e (ap At (one-written p d (firstWord d) x (first-written p d) h))
+named p w d y x e h =
+    let one = one-written p d (arrayWritten d) y (firstWord d) x (first-written p d) h in
+    rw e (λ k. In (one .0 k) (one .1 k))
 
-module _ (p : Part) (r : Device) (l : Lent) (debris : List ℕ) (x : ℕ) (no-word : exposedNow p r .word ≡ At x → ⊥) (no-block : (b : ℕ) → exposedNow p r .block ≡ At b → blockOf p x ≡ b → ⊥) where
+module _ (p : Part) (r : Device) (l : Lent) (debris : List ℕ) (y : Array) (x : ℕ) (no-word : exposedNow p r .word ≡ In y x → ⊥) (no-block : (b : ℕ) → exposedNow p r .block ≡ At b → inBlock p b y x ≡ false) where
   abbrev Spares : Outcome → Type 0
-  Spares o = cellAt (o .lent) x ≡ cellAt l x
+  Spares o = wordAt (o .lent) y x ≡ wordAt l y x
 
-  sparing : Fit p r l → debrisNeeded p (r .operation) ≤ length debris → cellAt (cutLent p (r .operation) debris l) x ≡ cellAt l x
+  sparing : Fit p r l → debrisNeeded p (r .operation) ≤ length debris → wordAt (cutLent p (r .operation) debris l) y x ≡ wordAt l y x
   sparing f n =
       let told = exposed-told p r (f .sound) in
-      untouched p (r .operation) debris l (f .whole) n (begun-lies p (r .bits) (r .operation) (sound-operation p r (f .sound) (r .operation) refl)) x
-      (λ d e. by-cases (writes d x) (λ t. absurd (no-word (ap (λ (y : Exposed). y .word) told ∙ named p (begunProgram p (r .operation)) d x e t))) (λ t. t))
-      (λ b e. no-block b (ap (λ (y : Exposed). y .block) told ∙ e))
+      untouched p (r .operation) debris l (f .whole) n (begun-lies p (r .bits) (r .operation) (sound-operation p r (f .sound) (r .operation) refl)) y x
+      (λ d e. by-cases (writes d y x) (λ t. absurd (no-word (ap (λ (z : Exposed). z .word) told ∙ named p (begunProgram p (r .operation)) d y x e t))) (λ t. t))
+      (λ b e. no-block b (ap (λ (z : Exposed). z .block) told ∙ e))
 
-  pub sparing-all : cellAt (cutEvent p r l debris .lent) x ≡ cellAt l x
+  pub sparing-all : wordAt (cutEvent p r l debris .lent) y x ≡ wordAt l y x
   unfolding cutEvent
   sparing-all = by-ladder p r l _ Debris _ Spares (λ _. refl) refl (λ _. refl) (λ f t. sparing f (ltb-false (length debris) (debrisNeeded p (r .operation)) t))
 
 pub spared : (p : Part) → Spared p
 unfolding step
-spared p r l after debris y told x is c no-word no-block =
-    rw (allowed-is c .lent) (sparing-all p r l debris x (λ e. no-word (ap (λ (t : Exposed). t .word) is ∙ e)) (λ b e. no-block b (ap (λ (t : Exposed). t .block) is ∙ e)))
+spared p r l after debris y told z x is c no-word no-block =
+    rw (allowed-is c .lent) (sparing-all p r l debris z x (λ e. no-word (ap (λ (t : Exposed). t .word) is ∙ e)) (λ b e. no-block b (ap (λ (t : Exposed). t .block) is ∙ e)))
 
 -- ---- where `reads_cells` says so, a read gives the cell and changes nothing
 
-pub read-cell : (p : Part) (r : Device) (l : Lent) (a : ℕ) → length (l .cells) ≡ wordCount p → a < wordCount p → readsCells p r (bankOf p a) ≡ true
-    → readEvent p r l a ≡ outcome (answer Done (cellAt l a) r) l
+pub read-cell : (p : Part) (r : Device) (l : Lent) (a : ℕ) → Whole p l → a < wordCount p → readsCells p r (bankOf p a) ≡ true
+    → readEvent p r l a ≡ outcome (answer Done (wordAt l Main a) r) l
 unfolding readsCells
 read-cell p r l a whole h e =
     let s = both-left (sound p r) (givesCells p (r .command) (r .operation) (bankOf p a)) e in

@@ -3,7 +3,7 @@ use Rattle.audit.specs.Asks.{AsksNothing}
 
 pub asks-nothing : AsksNothing
 asks-nothing = (
-  (λ p r cells debris t a w n.
+  (λ p r cells otp debris t a w n.
       record {
         fresh = tt;
         is-sound = tt;
@@ -11,13 +11,16 @@ asks-nothing = (
         write = tt;
         wait = tt;
         cut = tt;
+        range-refusal = tt;
+        range-array = tt;
+        range = tt;
         exposed = tt;
         reads-cells = tt;
         until-end = tt;
         until-change = tt;
         debris-needed = tt;
       }),
-  (λ part words stored cells debris t a w n.
+  (λ part words stored cells otp debris t a w n.
       record {
         fresh = tt;
         carry = tt;
@@ -25,9 +28,11 @@ asks-nothing = (
         write = tt;
         wait = tt;
         cut = tt;
+        range = tt;
         sound = tt;
         exposed-block = tt;
         exposed-word = tt;
+        exposed-array = tt;
         reads-cells = tt;
         clock = tt;
         charge = tt;
@@ -37,6 +42,7 @@ asks-nothing = (
         until-change = tt;
         changing-block = tt;
         changing-word = tt;
+        changing-array = tt;
         debris-needed = tt;
         block-of = tt;
         bank-of = tt;

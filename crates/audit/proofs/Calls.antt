@@ -5,22 +5,21 @@ use mathlib.Core.Bool.{true}
 use mathlib.Core.List.{List, [], _∷_}
 use lib.Dec.{eqb}
 use Rattle.plain.specs.declared.Refusal.{Refusal}
-use Rattle.plain.specs.declared.Refusal.the-variants.{Done, State, Cells, Address, Clock, Debris, Busy, Sequence, Bank, Protected, Suspended, Locked, Raise}
+use Rattle.plain.specs.declared.Refusal.the-variants.{Done, State, Cells, Address, Clock, Debris, Busy, Sequence, Bank, Protected, Suspended, Locked, OtpLocked, Raise}
 use Rattle.plain.specs.declared.Device.{Device}
 use Rattle.plain.specs.Choice.{if_then_else_}
 use Rattle.plain.specs.Events.{Event}
-use Rattle.plain.specs.Lent.{lent}
+use Rattle.plain.specs.Lent.{Lent}
 use Rattle.plain.specs.Machine.{Ran, step, run}
 use Rattle.plain.specs.Refusals.{number}
-use Rattle.plain.proofs.Data.{Short}
 use Rattle.plain.proofs.Tools.{both}
 use Rattle.layout.specs.Image.{imageOf, deviceOf}
 use Rattle.layout.specs.Promises.{Fits}
 use Rattle.layout.proofs.Round.{round, well-formed}
 use Rattle.face.specs.Face.{Faced, isPart, partNamed, stands, shown}
-use Rattle.audit.specs.Called.{Called, Held, held, callTurn, Calls, none, more}
+use Rattle.audit.specs.Called.{Called, lentAfter, Held, held, callTurn, Calls, none, more}
 use Rattle.audit.proofs.Called.{called-is, called-brief, called-some}
-use Rattle.audit.proofs.Data.{short-fits, step-short}
+use Rattle.audit.proofs.Data.{step-fits}
 
 -- ---- a number names one refusal
 
@@ -38,6 +37,7 @@ named n =
     else if eqb n 9 then Protected
     else if eqb n 10 then Suspended
     else if eqb n 11 then Locked
+    else if eqb n 13 then OtpLocked
     else Raise
 
 named-number : (n : Refusal) → named (number n) ≡ n
@@ -54,6 +54,7 @@ named-number Bank = refl
 named-number Protected = refl
 named-number Suspended = refl
 named-number Locked = refl
+named-number OtpLocked = refl
 named-number Raise = refl
 
 pub same-refusal : (m n : Refusal) → number m ≡ number n → m ≡ n
@@ -67,38 +68,38 @@ module _ (part : ℕ) (known : isPart part ≡ true) where
   image-stands r h = both _ _ known (well-formed r h)
 
   -- a call on the words of a record
-  pub on-words : (r : Device) (words cells now : List ℕ) (e : Event) (f : Faced) → words ≡ imageOf r → cells ≡ now → Fits r → Called part words cells e f
-      → f ≡ shown (step (partNamed part) r (lent now) e)
-  on-words r words cells now e f w c h g =
+  pub on-words : (r : Device) (words : List ℕ) (l now : Lent) (e : Event) (f : Faced) → words ≡ imageOf r → l ≡ now → Fits r → Called part words l e f
+      → f ≡ shown (step (partNamed part) r now e)
+  on-words r words l now e f w c h g =
       let s : stands part words ≡ true = rw w (image-stands r h) in
-      let same : f ≡ shown (step (partNamed part) (deviceOf words) (lent cells) e) = called-is part words cells g ∙ called-some part words cells e s in
+      let same : f ≡ shown (step (partNamed part) (deviceOf words) l e) = called-is part words l g ∙ called-some part words l e s in
       let back : deviceOf words ≡ r = ap deviceOf w ∙ round r h in
-      same ∙ (λ k. shown (step (partNamed part) (back k) (lent (c k)) e))
+      same ∙ (λ k. shown (step (partNamed part) (back k) (c k) e))
 
   abbrev as-held : Ran → Held
-  as-held ran = held (imageOf (ran .device)) (ran .lent .cells) (ran .turns)
+  as-held ran = held (imageOf (ran .device)) (ran .lent) (ran .turns)
 
-  pub record RanAs (r : Device) (cells : List ℕ) (es : List Event) (ran : Held) : Type 0 where
-    pub same : ran ≡ as-held (run (partNamed part) r (lent cells) es)
-    pub short : Short (run (partNamed part) r (lent cells) es .device .operation)
+  pub record RanAs (r : Device) (l : Lent) (es : List Event) (ran : Held) : Type 0 where
+    pub same : ran ≡ as-held (run (partNamed part) r l es)
+    pub fits : Fits (run (partNamed part) r l es .device)
 
-  one-more : (r : Device) (cells : List ℕ) (e : Event) (es : List Event) (f : Faced) (n : Refusal) (rest : Held)
-      → f ≡ shown (step (partNamed part) r (lent cells) e) → number n ≡ f .refusal
-      → RanAs (step (partNamed part) r (lent cells) e .answer .device) (step (partNamed part) r (lent cells) e .lent .cells) es rest
-      → RanAs r cells (e ∷ es) (held (rest .words) (rest .cells) (callTurn e n f ∷ rest .turns))
+  one-more : (r : Device) (l : Lent) (e : Event) (es : List Event) (f : Faced) (n : Refusal) (rest : Held)
+      → f ≡ shown (step (partNamed part) r l e) → number n ≡ f .refusal
+      → RanAs (step (partNamed part) r l e .answer .device) (step (partNamed part) r l e .lent) es rest
+      → RanAs r l (e ∷ es) (held (rest .words) (rest .lent) (callTurn e n f ∷ rest .turns))
   unfolding run
-  one-more r cells e es f n rest s m t =
-      let o = step (partNamed part) r (lent cells) e in
+  one-more r l e es f n rest s m t =
+      let o = step (partNamed part) r l e in
       let is : n ≡ o .answer .refusal = same-refusal n (o .answer .refusal) (m ∙ ap (λ (x : Faced). x .refusal) s) in
-      record { same = rw (t .same, is, s); short = t .short }
+      record { same = rw (t .same, is, s); fits = t .fits }
 
-  pub calls-are : (r : Device) (words cells now : List ℕ) (es : List Event) (ran : Held) → words ≡ imageOf r → cells ≡ now → Short (r .operation) → Calls part words cells es ran
+  pub calls-are : (r : Device) (words : List ℕ) (l now : Lent) (es : List Event) (ran : Held) → words ≡ imageOf r → l ≡ now → Fits r → Calls part words l es ran
       → RanAs r now es ran
   unfolding run
-  calls-are r words cells now [] ran w c h none = record { same = rw (w, c); short = h }
-  calls-are r words cells now (e ∷ es) ran w c h (more {f = f} {n = n} {rest = rest} g m k) =
-      let o = step (partNamed part) r (lent now) e in
-      let s = on-words r words cells now e f w c (short-fits r h) g in
+  calls-are r words l now [] ran w c h none = record { same = rw (w, c); fits = h }
+  calls-are r words l now (e ∷ es) ran w c h (more {f = f} {n = n} {rest = rest} g m k) =
+      let o = step (partNamed part) r now e in
+      let s = on-words r words l now e f w c h g in
       one-more r now e es f n rest s m
-      (calls-are (o .answer .device) (f .image) (f .cells) (o .lent .cells) es rest (ap (λ (x : Faced). x .image) s) (ap (λ (x : Faced). x .cells) s)
-      (step-short (partNamed part) r (lent now) h e (called-brief part words cells g)) k)
+      (calls-are (o .answer .device) (f .image) (lentAfter f) (o .lent) es rest (ap (λ (x : Faced). x .image) s) (ap lentAfter s)
+      (step-fits (partNamed part) r now h e (called-brief part words l g)) k)

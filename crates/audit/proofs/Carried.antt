@@ -24,10 +24,10 @@ pub demand-3-code : (p : Part) → Demand3Code p
 demand-3-code p start after es debris ran y f g e = as-left p start after es debris ran y (runs-are f) (allowed-is g) e
 
 pub holding-code : (p : Part) → HoldingCode p
-holding-code p start es ran f x hx = rw (runs-are f) (holding p start es x hx)
+holding-code p start es ran f y x hx = rw (runs-are f) (holding p start es y x hx)
 
 pub programs-leave-data-code : (p : Part) → ProgramsLeaveDataCode p
-programs-leave-data-code p start es ran f x d hx last = rw (runs-are f) (programs-leave-data p start es x d hx (rw (runs-are f) at last))
+programs-leave-data-code p start es ran f y x d hx last = rw (runs-are f) (programs-leave-data p start es y x d hx (rw (runs-are f) at last))
 
 pub charge-code : (p : Part) → ChargeCode p
 charge-code p start es ran f = rw (runs-are f) (charge-by-history p start es)

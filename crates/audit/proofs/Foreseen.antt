@@ -22,7 +22,7 @@ use Rattle.plain.specs.declared.Answer.{Answer}
 use Rattle.plain.specs.Cut.{begunBlock, begunProgram, blockDebris, programDebris, debrisNeeded}
 use Rattle.plain.specs.Events.{read, wait}
 use Rattle.plain.specs.Figures.{clockLimit}
-use Rattle.plain.specs.Lent.{Lent}
+use Rattle.plain.specs.Lent.{Lent, arrayOf}
 use Rattle.plain.specs.Machine.{Outcome, refused, Fit, now, waited, readEvent, waitEvent, step}
 use Rattle.plain.specs.Operations.{runningOf}
 use Rattle.plain.specs.Programs.{debrisWords}
@@ -118,7 +118,7 @@ module _ (p : Part) (r : Device) (l : Lent) (k : ℕ) where
       still-so = unchanged-till p (now r l) k h
 
       fit-later : Fit p left (later .lent)
-      fit-later = record { sound = sound-later; whole = ap (λ (x : Lent). length (x .cells)) (still-so .lent) ∙ t .fit .whole }
+      fit-later = record { sound = sound-later; whole = λ y. ap (λ (x : Lent). length (arrayOf y x)) (still-so .lent) ∙ t .fit .whole y }
 
       -- a read is answered as before
       pub same-read : (a : ℕ) → Alike (readEvent p left (later .lent) a) (readEvent p r l a)
@@ -188,7 +188,7 @@ module _ (p : Part) (r : Device) (l : Lent) (k : ℕ) (t : Taken p r l k) where
   just-changed : comesAt (changeOf (runningOf (r .operation))) k ≡ true → JustChanged p (changeOf (runningOf (r .operation))) r l (left p r l k t) (later p r l k t .lent)
   just-changed h =
       let u = changed p r l k t h in
-      record { lent = u .lent; runs = u .runs; elsewhere = u .elsewhere }
+      record { lent = u .lent; runs = u .runs; mode = u .mode; elsewhere = u .elsewhere }
 
 pub change-foreseen : (p : Part) → ChangeForeseen p
 change-foreseen p r l after c k y told w e =

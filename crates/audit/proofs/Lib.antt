@@ -13,7 +13,10 @@ pub mod CallAsked
 pub mod CallCarried
 pub mod SuspendedProgram
 pub mod Raise
+pub mod OneTime
+pub mod Ranges
 pub mod Foreseen
+pub mod CallTold
 pub mod CallForeseen
 pub mod Replayed
 pub mod MappedBanks

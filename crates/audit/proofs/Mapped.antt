@@ -17,6 +17,6 @@ stays-mapped-code p r l es ran bank is f h =
     rw (performed-run f) ((λ said says. says ∙ stays .0), stays .1)
 
 pub stays-mapped-calls : StaysMappedCalls
-stays-mapped-calls part words cells es ran bank t u at by is k h =
+stays-mapped-calls part words l es ran bank t u at by is k h =
     let yes : faceReadsCells part words bank ≡ true = sym is in
     ((λ said says. says ∙ calls-mapped part bank k h yes), (λ x here. calls-same x k h (rw here yes)))

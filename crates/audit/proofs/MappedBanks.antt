@@ -1,4 +1,4 @@
--- No read, wait or cut withdraws a bank.
+-- No read, wait, cut or range withdraws a bank.
 use Prim.Native.Nat.{ℕ}
 use mathlib.Core.Path.{_≡_, refl, _∙_}
 use mathlib.Core.Bool.{Bool, true, false, not}
@@ -10,13 +10,13 @@ use Rattle.geometry.specs.Parts.{bankCount}
 use Rattle.plain.specs.declared.Refusal.{Refusal}
 use Rattle.plain.specs.declared.Refusal.the-variants.{Address, Clock, Debris}
 use Rattle.plain.specs.declared.Device.{Device}
-use Rattle.plain.specs.Events.{Event, read, write, wait, cut}
-use Rattle.plain.specs.Lent.{Lent, lent}
-use Rattle.plain.specs.Machine.{Outcome, Fit, ladder, now, readEvent, waitEvent, cutEvent, step, run}
+use Rattle.plain.specs.Events.{Event, read, write, wait, cut, range}
+use Rattle.plain.specs.Lent.{Lent}
+use Rattle.plain.specs.Machine.{Outcome, Fit, ladder, now, handsBack, readEvent, waitEvent, cutEvent, rangeEvent, step, run}
 use Rattle.plain.specs.Sound.{sound}
 use Rattle.plain.proofs.Facts.{sound-operation}
 use Rattle.plain.proofs.Ladder.{by-ladder}
-use Rattle.plain.proofs.Tools.{both, both-left, both-right, clash}
+use Rattle.plain.proofs.Tools.{by-test, both, both-left, both-right, clash}
 use Rattle.history.proofs.Kept.{step-sound}
 use Rattle.layout.specs.Image.{imageOf, deviceOf}
 use Rattle.layout.specs.Promises.{Fits}
@@ -29,7 +29,7 @@ use Rattle.asked.specs.Asked.{faceReadsCells}
 use Rattle.audit.specs.Called.{Called, Held, Calls, none, more}
 use Rattle.audit.specs.Mapped.{isWrite, noWrite}
 use Rattle.audit.proofs.Called.{called-is, called-some, called-brief, left-stands}
-use Rattle.audit.proofs.Data.{short-fits, image-short, step-short}
+use Rattle.audit.proofs.Data.{image-fits, step-fits}
 
 -- ---- one event
 
@@ -42,12 +42,13 @@ module _ (p : Part) (r : Device) (l : Lent) (bank : ℕ) where
     climbs fails own taken f = by-ladder p r l fails own taken Gives (λ _. g) g (λ _. g) (λ fit _. f fit)
 
     step-gives : (e : Event) → isWrite e ≡ false → Gives (step p r l e)
-    unfolding isWrite step readEvent waitEvent cutEvent
+    unfolding isWrite step readEvent waitEvent cutEvent rangeEvent
     step-gives (read a) h = climbs _ Address _ (λ _. after-read p bank (r .bits) (r .command) (r .operation) l a g)
     step-gives (write a w) h = clash refl h
     step-gives (wait n) h =
         climbs _ Clock _ (λ f. after-wait p bank (r .bits) (r .command) n (now r l) (sound-operation p r (f .sound) (r .operation) refl) g)
     step-gives (cut debris) h = climbs _ Debris _ (λ _. after-cut p bank)
+    step-gives (range first count) h = climbs _ Address _ (λ _. by-test Gives (handsBack (r .operation)) (λ _. g) (λ _. g))
 
   pub step-mapped : (e : Event) → isWrite e ≡ false → readsCells p r bank ≡ true
       → readsCells p (step p r l e .answer .device) bank ≡ true
@@ -85,26 +86,26 @@ sound-of p r bank m = both-left (sound p r) (givesCells p (r .command) (r .opera
 stands-left : (part : ℕ) (words : List ℕ) (r : Device) → stands part words ≡ true → Fits r → sound (partNamed part) r ≡ true
     → stands part (imageOf r) ≡ true
 unfolding stands standsSound
-stands-left part words r stood fits good = both-left (stands part (imageOf r)) _ (left-stands part [] [] r (both-left (isPart part) _ stood) fits good)
+stands-left part words r stood fits good = both-left (stands part (imageOf r)) _ (left-stands part r (both-left (isPart part) _ stood) fits good)
 
 module _ (part : ℕ) (bank : ℕ) where
-  pub call-mapped : (words cells : List ℕ) (e : Event) (f : Faced) → Called part words cells e f → isWrite e ≡ false
+  pub call-mapped : (words : List ℕ) (l : Lent) (e : Event) (f : Faced) → Called part words l e f → isWrite e ≡ false
       → faceReadsCells part words bank ≡ true → faceReadsCells part (f .image) bank ≡ true
   unfolding faceReadsCells
-  call-mapped words cells e f c h m =
+  call-mapped words l e f c h m =
       let p = partNamed part in
       let r = deviceOf words in
       let stood = both-left (stands part words) _ m in
       let asked = both-right (stands part words) _ m in
       let maps = both-right (ltb bank (bankCount p)) (readsCells p r bank) asked in
-      let left = step p r (lent cells) e .answer .device in
-      let fits = short-fits left (step-short p r (lent cells) (image-short words) e (called-brief part words cells c)) in
-      rw (called-is part words cells c ∙ called-some part words cells e stood, round left fits)
-      (both _ _ (stands-left part words left stood fits (step-sound p r (lent cells) e (sound-of p r bank maps)))
-      (both _ _ (both-left (ltb bank (bankCount p)) (readsCells p r bank) asked) (step-mapped p r (lent cells) bank e h maps)))
+      let left = step p r l e .answer .device in
+      let fits = step-fits p r l (image-fits words) e (called-brief part words l c) in
+      rw (called-is part words l c ∙ called-some part words l e stood, round left fits)
+      (both _ _ (stands-left part words left stood fits (step-sound p r l e (sound-of p r bank maps)))
+      (both _ _ (both-left (ltb bank (bankCount p)) (readsCells p r bank) asked) (step-mapped p r l bank e h maps)))
 
-  pub calls-mapped : {words cells : List ℕ} {es : List Event} {ran : Held} → Calls part words cells es ran → noWrite es ≡ true
+  pub calls-mapped : {words : List ℕ} {l : Lent} {es : List Event} {ran : Held} → Calls part words l es ran → noWrite es ≡ true
       → faceReadsCells part words bank ≡ true → faceReadsCells part (ran .words) bank ≡ true
   calls-mapped none h m = m
-  calls-mapped {words} {cells} (more {e = e} {es = es} {f = f} c n k) h m =
-      calls-mapped k (rest-none e es h) (call-mapped words cells e f c (first-none e es h) m)
+  calls-mapped {words} {l} (more {e = e} {es = es} {f = f} c n k) h m =
+      calls-mapped k (rest-none e es h) (call-mapped words l e f c (first-none e es h) m)

@@ -7,7 +7,7 @@ use Rattle.geometry.specs.declared.Part.{Part}
 use Rattle.plain.specs.declared.Refusal.the-variants.{Raise}
 use Rattle.plain.specs.declared.Answer.{Answer}
 use Rattle.plain.specs.Events.{Event, write}
-use Rattle.plain.specs.Lent.{lent}
+use Rattle.plain.specs.Lent.{Lent}
 use Rattle.plain.specs.Machine.{Outcome}
 use Rattle.plain.specs.Raise.{CannotWork}
 use Rattle.plain.specs.Refusals.{number}
@@ -34,21 +34,21 @@ others-start-code p r l after a w y f s k = ap (λ (y : Answer). y .refusal) (al
 
 -- ---- through C
 
-module _ (part : ℕ) (words cells : List ℕ) (e : Event) where
+module _ (part : ℕ) (words : List ℕ) (l : Lent) (e : Event) where
   Only : Faced → Type 0
-  Only f = f .refusal ≡ number Raise → CannotWork (partNamed part) (deviceOf words) (lent cells) e
+  Only f = f .refusal ≡ number Raise → CannotWork (partNamed part) (deviceOf words) l e
 
 pub raise-only-calls : RaiseOnlyCalls
 unfolding Only number
-raise-only-calls part words cells e f c h =
-    by-standing part words cells (Only part words cells e) e (λ wrong. absurd (omega (arith, wrong)))
-    (λ same. raise-only (partNamed part) (deviceOf words) (lent cells) e (same-refusal _ Raise same)) (ap (λ (x : Faced). x .refusal) (sym (called-is part words cells c)) ∙ h)
+raise-only-calls part words l e f c h =
+    by-standing part words l (Only part words l e) e (λ wrong. absurd (omega (arith, wrong)))
+    (λ same. raise-only (partNamed part) (deviceOf words) l e (same-refusal _ Raise same)) (ap (λ (x : Faced). x .refusal) (sym (called-is part words l c)) ∙ h)
 
 pub raise-always-calls : RaiseAlwaysCalls
-raise-always-calls part words cells e f c s k =
-    called-is part words cells c ∙ called-some part words cells e s ∙ ap shown (raise-always (partNamed part) (deviceOf words) (lent cells) e k)
+raise-always-calls part words l e f c s k =
+    called-is part words l c ∙ called-some part words l e s ∙ ap shown (raise-always (partNamed part) (deviceOf words) l e k)
 
 pub others-start-calls : OthersStartCalls
-others-start-calls part words cells a w f c s k works =
-    ap (λ (x : Faced). x .refusal) (called-is part words cells c ∙ called-some part words cells (write a w) s)
-    ∙ ap number (others-start (partNamed part) (deviceOf words) (lent cells) a w k works)
+others-start-calls part words l a w f c s k works =
+    ap (λ (x : Faced). x .refusal) (called-is part words l c ∙ called-some part words l (write a w) s)
+    ∙ ap number (others-start (partNamed part) (deviceOf words) l a w k works)

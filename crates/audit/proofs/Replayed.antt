@@ -4,6 +4,7 @@ use mathlib.Core.Path.{_≡_, refl, sym, ap, _∙_}
 use mathlib.Core.List.{List, [], _∷_, _++_, append-assoc}
 use lib.Dec.{eqb}
 use Rattle.plain.specs.Choice.{if_then_else_}
+use Rattle.plain.specs.Lent.{Lent}
 use Rattle.playing.specs.declared.Replay.{Replay}
 use Rattle.playing.specs.Runs.{Run, run, ended, fed, runOver, toldOver, closing, told}
 use Rattle.playing.proofs.Answers.{script-answers}
@@ -19,12 +20,12 @@ runs-on s (b ∷ one) two = runs-on (if eqb b 10 then ended s else fed s b) one 
 whole-on : (s : Run) (one two : List ℕ) → told s (one ++ two) ≡ toldOver s one ++ told (runOver s one) two
 whole-on s one two = rw (told-parts s one two, runs-on s one two) (append-assoc (toldOver s one) (toldOver (runOver s one) two) (closing (runOver (runOver s one) two)))
 
-writes-told : {r : Replay} {cells words : List ℕ} {parts : List (List ℕ)} {written : List ℕ} → Writes r cells words parts written → written ≡ told (run r cells words) (joined parts)
+writes-told : {r : Replay} {l : Lent} {words : List ℕ} {parts : List (List ℕ)} {written : List ℕ} → Writes r l words parts written → written ≡ told (run r l words) (joined parts)
 unfolding runOver toldOver
-writes-told (ends t at by to n out cells′ words′ out′ d) = d .filled
-writes-told {r} {cells} {words} (goes t from at by to y out cells′ words′ out′ {part = part} {parts = parts} d w) =
-    rw (d .1 .filled, writes-told w, d .0) (sym (whole-on (run r cells words) part (joined parts)))
+writes-told (ends t at by of to n l′ out words′ out′ d) = d .filled
+writes-told {r} {l} {words} (goes t from at by of to y l′ out words′ out′ {part = part} {parts = parts} d w) =
+    rw (d .1 .filled, writes-told w, d .0) (sym (whole-on (run r l words) part (joined parts)))
 
 pub replay-answers : ReplayAnswers
-replay-answers first cells words parts written is size bytes w =
-    writes-told w ∙ ap (λ (r : Replay). told (run r cells words) (joined parts)) is ∙ script-answers (joined parts) cells words size bytes
+replay-answers first l words parts written is size bytes w =
+    writes-told w ∙ ap (λ (r : Replay). told (run r l words) (joined parts)) is ∙ script-answers (joined parts) l words size bytes

@@ -9,11 +9,11 @@ use Rattle.plain.specs.declared.Erase.{Erase}
 use Rattle.plain.specs.declared.Inside.{Inside}
 use Rattle.plain.specs.declared.Inside.the-variants.{Nothing, Runs}
 use Rattle.plain.specs.declared.Operation.{Operation}
-use Rattle.plain.specs.declared.Operation.the-variants.{Idle, Programming, ProgramSuspended, Window, Erasing, Recovering, EraseSuspended, ChipErasing}
+use Rattle.plain.specs.declared.Operation.the-variants.{Idle, Programming, ProgramSuspended, Window, Erasing, Recovering, EraseSuspended, ChipErasing, InOneTime}
 use Rattle.plain.specs.declared.Device.{Device}
 use Rattle.plain.specs.Commands.{programIsSuspended}
 use Rattle.plain.specs.Events.{Event}
-use Rattle.plain.specs.Lent.{lent}
+use Rattle.plain.specs.Lent.{Lent}
 use Rattle.plain.specs.Machine.{step}
 use Rattle.plain.specs.Operations.{suspensionOf}
 use Rattle.plain.specs.Record.{fresh}
@@ -21,7 +21,7 @@ use Rattle.plain.specs.SuspendedProgram.{programRests}
 use Rattle.plain.proofs.SuspendedProgram.{Awake, awake-lasts}
 use Rattle.plain.proofs.Tools.{clash}
 use Rattle.history.proofs.Awake.{fresh-awake, no-event-suspends-program, no-run-suspends-program}
-use Rattle.layout.specs.Operations.{suspendedParts, operationParts}
+use Rattle.layout.specs.Operations.{suspendedParts, enteredParts, operationParts}
 use Rattle.layout.specs.Image.{imageOf, deviceOf, partsOf}
 use Rattle.face.specs.Face.{partNamed}
 use Rattle.audit.specs.Called.{Held, Calls, none, more}
@@ -45,6 +45,11 @@ unfolding suspendedParts
 inside-says e Nothing = refl
 inside-says e (Runs q) = refl
 
+entered-says : (i : Inside) → eqb (enteredParts i .number) 2 ≡ false
+unfolding enteredParts
+entered-says Nothing = refl
+entered-says (Runs q) = refl
+
 number-says : (o : Operation) → eqb (operationParts o .number) 2 ≡ programRests o
 unfolding operationParts suspensionOf programIsSuspended
 number-says Idle = refl
@@ -55,6 +60,7 @@ number-says (Erasing e) = refl
 number-says (Recovering r) = refl
 number-says (EraseSuspended s) = inside-says (s .erase) (s .inside)
 number-says (ChipErasing e) = refl
+number-says (InOneTime i) = entered-says i
 
 image-says : (r : Device) → saysSuspended (imageOf r) ≡ programRests (r .operation)
 unfolding imageOf
@@ -62,22 +68,22 @@ image-says r = number-says (r .operation)
 
 device-awake : (i : List ℕ) → saysSuspended i ≡ false → Awake (deviceOf i .operation)
 unfolding deviceOf suspensionOf programIsSuspended
-device-awake i h = by-number Awake awake-lasts (partsOf i) refl (λ e. clash e h) refl
+device-awake i h = by-number Awake awake-lasts (partsOf i) refl (λ e. clash e h) refl refl
 
 -- ---- through C
 
-says-no : (part : ℕ) (words cells : List ℕ) (e : Event) → saysSuspended words ≡ false → saysSuspended (called part words cells e .image) ≡ false
-says-no part words cells e h =
-    by-standing part words cells (λ f. saysSuspended (f .image) ≡ false) e h
-    (image-says (step (partNamed part) (deviceOf words) (lent cells) e .answer .device)
-    ∙ no-event-suspends-program (partNamed part) (deviceOf words) (lent cells) e (device-awake words h))
+says-no : (part : ℕ) (words : List ℕ) (l : Lent) (e : Event) → saysSuspended words ≡ false → saysSuspended (called part words l e .image) ≡ false
+says-no part words l e h =
+    by-standing part words l (λ f. saysSuspended (f .image) ≡ false) e h
+    (image-says (step (partNamed part) (deviceOf words) l e .answer .device)
+    ∙ no-event-suspends-program (partNamed part) (deviceOf words) l e (device-awake words h))
 
 pub calls-suspend-no-program : CallsSuspendNoProgram
-calls-suspend-no-program part words cells e f c h = rw (called-is part words cells c) (says-no part words cells e h)
+calls-suspend-no-program part words l e f c h = rw (called-is part words l c) (says-no part words l e h)
 
-run-says : {part : ℕ} {words cells : List ℕ} {es : List Event} {ran : Held} → Calls part words cells es ran → saysSuspended words ≡ false → saysSuspended (ran .words) ≡ false
+run-says : {part : ℕ} {words : List ℕ} {l : Lent} {es : List Event} {ran : Held} → Calls part words l es ran → saysSuspended words ≡ false → saysSuspended (ran .words) ≡ false
 run-says none h = h
-run-says {part} {words} {cells} (more {e = e} {f = f} c m g) h = run-says g (calls-suspend-no-program part words cells e f c h)
+run-says {part} {words} {l} (more {e = e} {f = f} c m g) h = run-says g (calls-suspend-no-program part words l e f c h)
 
 pub call-runs-suspend-no-program : CallRunsSuspendNoProgram
 call-runs-suspend-no-program part start es ran runs = run-says (runs .calls) (rw (made-fresh (runs .made)) (image-says fresh ∙ fresh-awake))

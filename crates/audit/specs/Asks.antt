@@ -18,6 +18,9 @@ use Rattle.machine.proofs.read.Reads as Read
 use Rattle.machine.proofs.write.Reads as Write
 use Rattle.machine.proofs.wait.Reads as Wait
 use Rattle.machine.proofs.cut.Reads as Cut
+use Rattle.machine.proofs.range_refusal.Reads as RangeRefusal
+use Rattle.machine.proofs.range_array.Reads as RangeArray
+use Rattle.machine.proofs.range.Reads as Range
 use Rattle.machine.proofs.exposed.Reads as Exposed
 use Rattle.machine.proofs.reads_cells.Reads as ReadsCells
 use Rattle.machine.proofs.until_end.Reads as UntilEnd
@@ -29,9 +32,11 @@ use Rattle.emulator.proofs.k5l_read.Reads as CRead
 use Rattle.emulator.proofs.k5l_write.Reads as CWrite
 use Rattle.emulator.proofs.k5l_wait.Reads as CWait
 use Rattle.emulator.proofs.k5l_cut.Reads as CCut
+use Rattle.emulator.proofs.k5l_range.Reads as CRange
 use Rattle.emulator.proofs.asked_of.k5l_sound.Reads as CSound
 use Rattle.emulator.proofs.asked_of.k5l_exposed_block.Reads as CExposedBlock
 use Rattle.emulator.proofs.asked_of.k5l_exposed_word.Reads as CExposedWord
+use Rattle.emulator.proofs.asked_of.k5l_exposed_array.Reads as CExposedArray
 use Rattle.emulator.proofs.asked_of.k5l_reads_cells.Reads as CReadsCells
 use Rattle.emulator.proofs.asked_of.k5l_clock.Reads as CClock
 use Rattle.emulator.proofs.asked_of.k5l_charge.Reads as CCharge
@@ -41,18 +46,22 @@ use Rattle.emulator.proofs.foreseen.k5l_until_end.Reads as CUntilEnd
 use Rattle.emulator.proofs.foreseen.k5l_until_change.Reads as CUntilChange
 use Rattle.emulator.proofs.foreseen.k5l_changing_block.Reads as CChangingBlock
 use Rattle.emulator.proofs.foreseen.k5l_changing_word.Reads as CChangingWord
+use Rattle.emulator.proofs.foreseen.k5l_changing_array.Reads as CChangingArray
 use Rattle.emulator.proofs.foreseen.k5l_debris_needed.Reads as CDebrisNeeded
 use Rattle.emulator.proofs.addresses.k5l_block_of.Reads as CBlockOf
 use Rattle.emulator.proofs.addresses.k5l_bank_of.Reads as CBankOf
 
 -- the functions of `machine`
-pub record MachineAsks (p : Part) (r : Device) (cells debris : RefT (List ℕ)) (t : Lfts 2) (a w n : ℕ) : Type 0 where
+pub record MachineAsks (p : Part) (r : Device) (cells otp debris : RefT (List ℕ)) (t : Lfts 3) (a w n : ℕ) : Type 0 where
   pub fresh : Fresh.Asked tt tt
   pub is-sound : IsSound.Asked tt (p, (r, tt))
-  pub read : Read.Asked (t .0, tt) (p, (r, (cells, (a, tt))))
-  pub write : Write.Asked (t .0, tt) (p, (r, (cells, (a, (w, tt)))))
-  pub wait : Wait.Asked (t .0, tt) (p, (r, (cells, (n, tt))))
-  pub cut : Cut.Asked t (p, (r, (cells, (debris, tt))))
+  pub read : Read.Asked (t .0, (t .1 .0, tt)) (p, (r, (cells, (otp, (a, tt)))))
+  pub write : Write.Asked (t .0, (t .1 .0, tt)) (p, (r, (cells, (otp, (a, (w, tt))))))
+  pub wait : Wait.Asked (t .0, (t .1 .0, tt)) (p, (r, (cells, (otp, (n, tt)))))
+  pub cut : Cut.Asked t (p, (r, (cells, (otp, (debris, tt)))))
+  pub range-refusal : RangeRefusal.Asked (t .0, (t .1 .0, tt)) (p, (r, (cells, (otp, (a, (n, tt))))))
+  pub range-array : RangeArray.Asked tt (r, (a, tt))
+  pub range : Range.Asked (t .0, tt) (p, (r, (cells, (otp, (a, (n, tt))))))
   pub exposed : Exposed.Asked tt (p, (r, tt))
   pub reads-cells : ReadsCells.Asked tt (p, (r, (n, tt)))
   pub until-end : UntilEnd.Asked tt (p, (r, tt))
@@ -60,16 +69,18 @@ pub record MachineAsks (p : Part) (r : Device) (cells debris : RefT (List ℕ)) 
   pub debris-needed : DebrisNeeded.Asked tt (p, (r, tt))
 
 -- the functions of the header
-pub record HeaderAsks (part : ℕ) (words stored cells debris : RefT (List ℕ)) (t : Lfts 3) (a w n : ℕ) : Type 0 where
+pub record HeaderAsks (part : ℕ) (words stored cells otp debris : RefT (List ℕ)) (t : Lfts 4) (a w n : ℕ) : Type 0 where
   pub fresh : CFresh.Asked (t .0, tt) (words, tt)
   pub carry : CCarry.Asked (t .0, (t .1 .0, tt)) (stored, (words, tt))
-  pub read : CRead.Asked (t .0, (t .1 .0, tt)) (part, (words, (cells, (a, tt))))
-  pub write : CWrite.Asked (t .0, (t .1 .0, tt)) (part, (words, (cells, (a, (w, tt)))))
-  pub wait : CWait.Asked (t .0, (t .1 .0, tt)) (part, (words, (cells, (n, tt))))
-  pub cut : CCut.Asked t (part, (words, (cells, (debris, tt))))
+  pub read : CRead.Asked (t .0, (t .1 .0, (t .1 .1 .0, tt))) (part, (words, (cells, (otp, (a, tt)))))
+  pub write : CWrite.Asked (t .0, (t .1 .0, (t .1 .1 .0, tt))) (part, (words, (cells, (otp, (a, (w, tt))))))
+  pub wait : CWait.Asked (t .0, (t .1 .0, (t .1 .1 .0, tt))) (part, (words, (cells, (otp, (n, tt)))))
+  pub cut : CCut.Asked t (part, (words, (cells, (otp, (debris, tt)))))
+  pub range : CRange.Asked (t .0, (t .1 .0, (t .1 .1 .0, tt))) (part, (words, (cells, (otp, (a, (n, tt))))))
   pub sound : CSound.Asked (t .0, tt) (part, (words, tt))
   pub exposed-block : CExposedBlock.Asked (t .0, tt) (part, (words, tt))
   pub exposed-word : CExposedWord.Asked (t .0, tt) (part, (words, tt))
+  pub exposed-array : CExposedArray.Asked (t .0, tt) (part, (words, tt))
   pub reads-cells : CReadsCells.Asked (t .0, tt) (part, (words, (n, tt)))
   pub clock : CClock.Asked (t .0, tt) (part, (words, tt))
   pub charge : CCharge.Asked (t .0, tt) (part, (words, tt))
@@ -79,6 +90,7 @@ pub record HeaderAsks (part : ℕ) (words stored cells debris : RefT (List ℕ))
   pub until-change : CUntilChange.Asked (t .0, tt) (part, (words, tt))
   pub changing-block : CChangingBlock.Asked (t .0, tt) (part, (words, tt))
   pub changing-word : CChangingWord.Asked (t .0, tt) (part, (words, tt))
+  pub changing-array : CChangingArray.Asked (t .0, tt) (part, (words, tt))
   pub debris-needed : CDebrisNeeded.Asked (t .0, tt) (part, (words, tt))
   pub block-of : CBlockOf.Asked tt (part, (a, tt))
   pub bank-of : CBankOf.Asked tt (part, (a, tt))
@@ -91,5 +103,5 @@ pub record HeaderAsks (part : ℕ) (words stored cells debris : RefT (List ℕ))
 
 abbrev pub AsksNothing : Type 0
 AsksNothing =
-    ((p : Part) (r : Device) (cells debris : RefT (List ℕ)) (t : Lfts 2) (a w n : ℕ) → MachineAsks p r cells debris t a w n)
-    × ((part : ℕ) (words stored cells debris : RefT (List ℕ)) (t : Lfts 3) (a w n : ℕ) → HeaderAsks part words stored cells debris t a w n)
+    ((p : Part) (r : Device) (cells otp debris : RefT (List ℕ)) (t : Lfts 3) (a w n : ℕ) → MachineAsks p r cells otp debris t a w n)
+    × ((part : ℕ) (words stored cells otp debris : RefT (List ℕ)) (t : Lfts 4) (a w n : ℕ) → HeaderAsks part words stored cells otp debris t a w n)

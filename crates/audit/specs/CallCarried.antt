@@ -9,7 +9,7 @@ use Rattle.plain.specs.declared.Refusal.the-variants.{Done}
 use Rattle.plain.specs.Refusals.{number}
 use Rattle.layout.specs.Places.{layoutNumber, recordWords}
 use Rattle.layout.specs.Image.{ofLayout, wellFormed, deviceOf}
-use Rattle.layout.specs.Carried.{wellFormedBefore, deviceBefore}
+use Rattle.layout.specs.Carried.{Older, wellFormedIn, deviceIn}
 use Rattle.emulator.proofs.k5l_carry.Reads as Carry
 use Rattle.audit.specs.Slices.{Location, slice}
 
@@ -17,11 +17,11 @@ use Rattle.audit.specs.Slices.{Location, slice}
 pub data Carries (stored before : List ℕ) : (answer : ℕ) → (after : List ℕ) → Type 0 where
   carries : (t : Lfts 2) (at by : Location) {n : ℕ} {after : List ℕ} → Carry.Learnt t (slice at stored, (slice by before, tt)) n (slice at stored, (slice by after, tt)) → Carries stored before n after
 
--- a record of layout 1 is the same record in the words of this one
+-- a record of layout 1 or 2 is the same record in the words of this one
 abbrev pub CarriesOlder : Type 0
 CarriesOlder =
-    (stored before : List ℕ) (n : ℕ) (after : List ℕ) → Carries stored before n after → wellFormedBefore stored ≡ true → length before ≡ recordWords
-    → (n ≡ number Done) × ((wellFormed after ≡ true) × (deviceOf after ≡ deviceBefore stored))
+    (v : Older) (stored before : List ℕ) (n : ℕ) (after : List ℕ) → Carries stored before n after → wellFormedIn v stored ≡ true → length before ≡ recordWords
+    → (n ≡ number Done) × ((wellFormed after ≡ true) × (deviceOf after ≡ deviceIn v stored))
 
 -- words of this layout are copied
 abbrev pub CarriesCurrent : Type 0

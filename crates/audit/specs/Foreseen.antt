@@ -6,12 +6,14 @@ use mathlib.Core.List.{List}
 use lib.Dec.{leb}
 use lib.ListN.{length}
 use Rattle.geometry.specs.declared.Part.{Part}
-use Rattle.geometry.specs.Parts.{wordCount, sizeOf}
+use Rattle.geometry.specs.Parts.{sizeOf}
+use Rattle.plain.specs.declared.Array.{Array}
 use Rattle.plain.specs.declared.Refusal.the-variants.{Done, Debris}
 use Rattle.plain.specs.declared.Device.{Device}
 use Rattle.plain.specs.declared.Answer.{Answer}
 use Rattle.plain.specs.Events.{read, wait, cut}
-use Rattle.plain.specs.Lent.{Lent, cellAt}
+use Rattle.plain.specs.Lent.{Lent, wordsOf, wordAt, Whole}
+use Rattle.plain.specs.OneTime.{inOneTime}
 use Rattle.plain.specs.Operations.{runningOf, suspensionOf}
 use Rattle.plain.specs.Sound.{isStill}
 use Rattle.remaining.specs.declared.Change.{Change}
@@ -37,7 +39,7 @@ EndNears p =
 
 -- ---- the next change
 
--- before it: the cells, what runs and what rests are as they were, and every read gives what it gave
+-- before it: the words of both arrays, what runs and what rests are as they were, and every read gives what it gave
 pub record AsBefore (p : Part) (r : Device) (l : Lent) (s : Device) (after : Lent) : Type 0 where
   pub lent : after ≡ l
   pub runs : timeless (runningOf (s .operation)) ≡ timeless (runningOf (r .operation))
@@ -45,11 +47,13 @@ pub record AsBefore (p : Part) (r : Device) (l : Lent) (s : Device) (after : Len
   pub reads : (a : ℕ) (y z : Answer) (one two : Lent) → Allowed p r l (read a) y one → Allowed p s after (read a) z two
       → (z .refusal ≡ y .refusal) × (z .word ≡ y .word)
 
--- just then: what was in hand is finished, something else runs or nothing, and no word has changed but where it was told
+-- just then: what was in hand is finished, something else runs or nothing, the one-time block is entered if it was, and no word of either
+-- array has changed but where it was told
 pub record JustChanged (p : Part) (c : Change) (r : Device) (l : Lent) (s : Device) (after : Lent) : Type 0 where
   pub lent : after ≡ completed p (runningOf (r .operation)) l
   pub runs : timeless (runningOf (s .operation)) ≡ timeless (runningOf (r .operation)) → ⊥
-  pub elsewhere : (x : ℕ) → x < wordCount p → changesAt p c x ≡ false → cellAt after x ≡ cellAt l x
+  pub mode : inOneTime s ≡ inOneTime r
+  pub elsewhere : (y : Array) (x : ℕ) → x < wordsOf p y → changesAt p c y x ≡ false → wordAt after y x ≡ wordAt l y x
 
 abbrev pub ChangeForeseen : Part → Type 0
 ChangeForeseen p =
@@ -57,7 +61,7 @@ ChangeForeseen p =
     → Allowed p r l (wait k) y after → y .refusal ≡ Done
     → (comeBy c k ≡ false → AsBefore p r l (y .device) after) × (comesAt c k ≡ true → JustChanged p c r l (y .device) after)
 
--- ---- the debris: over whole cells a cut with as many words as were told is taken, and no shorter one is
+-- ---- the debris: over whole arrays a cut with as many words as were told is taken, and no shorter one is
 
 -- what a cut may need at most: block 8 is as large as any, and a program inside its suspended erase needs one word more
 abbrev pub mostDebris : Part → ℕ
@@ -66,5 +70,5 @@ mostDebris p = sizeOf p 8 + 1
 abbrev pub DebrisForeseen : Part → Type 0
 DebrisForeseen p =
     (r : Device) (l after : Lent) (debris : List ℕ) (n : ℕ) (y : Answer) → DebrisNeeded.Learnt tt (p, (r, tt)) (Known n) (p, (r, tt))
-    → length (l .cells) ≡ wordCount p → Allowed p r l (cut debris) y after
+    → Whole p l → Allowed p r l (cut debris) y after
     → (n ≤ length debris → y .refusal ≡ Done) × ((length debris < n → y .refusal ≡ Debris) × (n ≤ mostDebris p))

@@ -6,6 +6,8 @@ pub mod Called
 pub mod CallPromises
 pub mod CallCarried
 pub mod Raise
+pub mod OneTime
+pub mod Ranges
 pub mod Mapped
 pub mod Foreseen
 pub mod CallForeseen

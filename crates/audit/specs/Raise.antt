@@ -9,7 +9,7 @@ use Rattle.plain.specs.declared.Refusal.the-variants.{Done, Raise}
 use Rattle.plain.specs.declared.Device.{Device}
 use Rattle.plain.specs.declared.Answer.{Answer}
 use Rattle.plain.specs.Events.{Event, write}
-use Rattle.plain.specs.Lent.{Lent, lent}
+use Rattle.plain.specs.Lent.{Lent}
 use Rattle.plain.specs.Raise.{WouldStart, Works, CannotWork, raised}
 use Rattle.plain.specs.Refusals.{number}
 use Rattle.layout.specs.Image.{deviceOf}
@@ -34,15 +34,15 @@ OthersStartCode p =
 
 abbrev pub RaiseOnlyCalls : Type 0
 RaiseOnlyCalls =
-    (part : ℕ) (words cells : List ℕ) (e : Event) (f : Faced) → Called part words cells e f → f .refusal ≡ number Raise
-    → CannotWork (partNamed part) (deviceOf words) (lent cells) e
+    (part : ℕ) (words : List ℕ) (l : Lent) (e : Event) (f : Faced) → Called part words l e f → f .refusal ≡ number Raise
+    → CannotWork (partNamed part) (deviceOf words) l e
 
 abbrev pub RaiseAlwaysCalls : Type 0
 RaiseAlwaysCalls =
-    (part : ℕ) (words cells : List ℕ) (e : Event) (f : Faced) → Called part words cells e f → stands part words ≡ true
-    → CannotWork (partNamed part) (deviceOf words) (lent cells) e → f ≡ shown (raised (deviceOf words) (lent cells))
+    (part : ℕ) (words : List ℕ) (l : Lent) (e : Event) (f : Faced) → Called part words l e f → stands part words ≡ true
+    → CannotWork (partNamed part) (deviceOf words) l e → f ≡ shown (raised (deviceOf words) l)
 
 abbrev pub OthersStartCalls : Type 0
 OthersStartCalls =
-    (part : ℕ) (words cells : List ℕ) (a w : ℕ) (f : Faced) → Called part words cells (write a w) f → stands part words ≡ true
-    → WouldStart (partNamed part) (deviceOf words) (lent cells) a w → Works (partNamed part) (deviceOf words) (lent cells) a w → f .refusal ≡ number Done
+    (part : ℕ) (words : List ℕ) (l : Lent) (a w : ℕ) (f : Faced) → Called part words l (write a w) f → stands part words ≡ true
+    → WouldStart (partNamed part) (deviceOf words) l a w → Works (partNamed part) (deviceOf words) l a w → f .refusal ≡ number Done

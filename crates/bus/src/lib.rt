@@ -5,15 +5,15 @@ ghost use Rattle.face.specs.Face.{packed, faceRead, faceWrite};
 use access::Sight;
 use plain::Refusal;
 
-pub fn read(part: u64, words: &mut [u64], cells: &[u16], address: usize) -> u64
-    ensures { λ r. ⌜ r ≡ packed (faceRead part (now (words .entry)) (now (cells .entry)) address) ⌝ }
-    ensures { λ r. ⌜ now (words .exit) ≡ faceRead part (now (words .entry)) (now (cells .entry)) address .image ⌝ }
+pub fn read(part: u64, words: &mut [u64], cells: &[u16], otp: &[u16], address: usize) -> u64
+    ensures { λ r. ⌜ r ≡ packed (faceRead part (now (words .entry)) (now (cells .entry)) (now (otp .entry)) address) ⌝ }
+    ensures { λ r. ⌜ now (words .exit) ≡ faceRead part (now (words .entry)) (now (cells .entry)) (now (otp .entry)) address .image ⌝ }
 {
     if !calls::stands(part, words) {
         return calls::packed(Refusal::State, 0);
     }
     let device = image::device_of(words);
-    let sight = access::read(calls::part_named(part), device, cells, address);
+    let sight = access::read(calls::part_named(part), device, cells, otp, address);
     match sight {
         Sight::Refused(refusal) => calls::packed(refusal, 0),
         Sight::Shown(seen) => {
@@ -24,14 +24,21 @@ pub fn read(part: u64, words: &mut [u64], cells: &[u16], address: usize) -> u64
     }
 }
 
-pub fn write(part: u64, words: &mut [u64], cells: &[u16], address: usize, word: u16) -> u64
-    ensures { λ r. ⌜ r ≡ faceWrite part (now (words .entry)) (now (cells .entry)) address word .refusal ⌝ }
-    ensures { λ r. ⌜ now (words .exit) ≡ faceWrite part (now (words .entry)) (now (cells .entry)) address word .image ⌝ }
+pub fn write(
+    part: u64,
+    words: &mut [u64],
+    cells: &[u16],
+    otp: &[u16],
+    address: usize,
+    word: u16,
+) -> u64
+    ensures { λ r. ⌜ r ≡ faceWrite part (now (words .entry)) (now (cells .entry)) (now (otp .entry)) address word .refusal ⌝ }
+    ensures { λ r. ⌜ now (words .exit) ≡ faceWrite part (now (words .entry)) (now (cells .entry)) (now (otp .entry)) address word .image ⌝ }
 {
     if !calls::stands(part, words) {
         return answers::number_of(Refusal::State);
     }
     let device = image::device_of(words);
-    let effect = access::write(calls::part_named(part), device, cells, address, word);
+    let effect = access::write(calls::part_named(part), device, cells, otp, address, word);
     effects::put_effect(words, effect)
 }

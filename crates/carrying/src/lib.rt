@@ -29,6 +29,9 @@ fn is_carriable(stored: &[u64]) -> bool
     if stored.len() == layout::RECORD_WORDS {
         return stored[layout::LAYOUT_AT] == layout::LAYOUT;
     }
+    if stored.len() == layout::SECOND_WORDS {
+        return stored[layout::LAYOUT_AT] == layout::SECOND_LAYOUT;
+    }
     if stored.len() != layout::FIRST_WORDS {
         return false;
     }

@@ -50,7 +50,9 @@ kept-size (Form.Addresses a) i kept = refl
 kept-size (Form.Writes a w) i kept = refl
 kept-size (Form.Waits d) i kept = refl
 kept-size (Form.Cuts n) i kept = stored-size kept n (wordsOf i)
-kept-size (Form.Sets a n) i kept = stored-size kept n (wordsOf i)
+kept-size (Form.Starts a) i kept = refl
+kept-size (Form.Ranges a n) i kept = refl
+kept-size (Form.Sets t a n) i kept = stored-size kept n (wordsOf i)
 kept-size Form.Freshens i kept = refl
 kept-size Form.Wrong i kept = refl
 

@@ -8,9 +8,9 @@ use lib.Dec.{leb, ltb}
 use Rattle.language.specs.declared.Value.{Value}
 use Rattle.forms.specs.declared.Verb.{Verb}
 use Rattle.forms.specs.declared.Form.{Form}
-use Rattle.forms.specs.Forms.{takenBy, keptBy, numberedBy, verbWith, writtenBy}
+use Rattle.forms.specs.Forms.{takenBy, keptBy, numberedBy, verbWith, writtenBy, rangedBy}
 use Rattle.script.specs.Orders.{orderOf}
-use Rattle.language.specs.Language.{Meaning, nothing, malformed, read, write, wait, figure, word, anyNumber, atMost, asked, oneFigure, writeLine, freshLine}
+use Rattle.language.specs.Language.{Meaning, nothing, malformed, read, write, wait, range, figure, word, anyNumber, atMost, asked, oneFigure, twoNumbers, freshLine}
 use Rattle.language.specs.Orders.{seen}
 use Rattle.conformance.proofs.Cases.{by-test}
 use Rattle.conformance.proofs.ItemBytes.{itemOf, item-number}
@@ -67,7 +67,31 @@ wait-ordered [] kept = refl
 wait-ordered (a ∷ []) kept = rw (item-number a) (wait-then (figure a) [] kept)
 wait-ordered (a ∷ b ∷ items) kept = rw (item-number a) (wait-then (figure a) (b ∷ items) kept)
 
--- ---- `write A W`
+-- ---- `write A W`, `range A N`
+
+never : (v : Value) → asked (λ n. malformed) v ≡ malformed
+never Value.Absent = refl
+never (Value.Of n) = refl
+
+-- the items behind the address
+abbrev second : (ℕ → ℕ → Meaning) → (List ℕ → Value) → (items : List (List ℕ)) (address : ℕ) → Meaning
+second meaning value [] address = malformed
+second meaning value (b ∷ []) address = asked (meaning address) (value b)
+second meaning value (b ∷ x ∷ items) address = malformed
+
+module _ (verb : Verb) (meaning : ℕ → ℕ → Meaning) (value : List ℕ → Value)
+    (behind : (n : ℕ) (items : List (List ℕ)) (kept : List ℕ) → ordered (verbWith verb n) kept items ≡ second meaning value items n) where
+  address-then : (v : Value) (items : List (List ℕ)) (kept : List ℕ) → ordered (numberedBy verb v) kept items ≡ asked (second meaning value items) v
+  unfolding numberedBy
+  address-then Value.Absent items kept = wrong-ordered items kept
+  address-then (Value.Of n) items kept = behind n items kept
+
+  two-ordered : (items : List (List ℕ)) (kept : List ℕ) → ordered (Form.Named verb) kept items ≡ twoNumbers meaning value items
+  unfolding ordered orderOf takenBy keptBy
+  two-ordered [] kept = refl
+  two-ordered (a ∷ []) kept = rw (item-number a) (address-then (figure a) [] kept ∙ never (figure a))
+  two-ordered (a ∷ b ∷ []) kept = rw (item-number a) (address-then (figure a) (b ∷ []) kept)
+  two-ordered (a ∷ b ∷ x ∷ items) kept = rw (item-number a) (address-then (figure a) (b ∷ x ∷ items) kept ∙ never (figure a))
 
 written-alone : (n : ℕ) (v : Value) (kept : List ℕ) → ordered (writtenBy n (atMost (2 ^ 64 - 1) v)) kept [] ≡ asked (write n) (atMost 0xffff v)
 unfolding ordered orderOf writtenBy
@@ -87,30 +111,27 @@ written-more n (Value.Of k) i items kept =
     (λ e. rw e (wrong-ordered items kept))
     (λ e. rw e (wrong-ordered items kept))
 
--- the items behind the address
-abbrev worded : (items : List (List ℕ)) (address : ℕ) → Meaning
-worded [] address = malformed
-worded (w ∷ []) address = asked (write address) (word w)
-worded (w ∷ x ∷ items) address = malformed
+word-ordered : (n : ℕ) (items : List (List ℕ)) (kept : List ℕ) → ordered (verbWith Verb.Write n) kept items ≡ second write word items n
+unfolding ordered orderOf takenBy keptBy verbWith
+word-ordered n [] kept = refl
+word-ordered n (w ∷ []) kept = rw (item-number w) (written-alone n (anyNumber w) kept)
+word-ordered n (w ∷ x ∷ items) kept = rw (item-number w) (written-more n (figure w) x items kept)
 
-address-ordered : (n : ℕ) (items : List (List ℕ)) (kept : List ℕ) → ordered (Form.Addresses n) kept items ≡ worded items n
-unfolding ordered orderOf takenBy keptBy
-address-ordered n [] kept = refl
-address-ordered n (w ∷ []) kept = rw (item-number w) (written-alone n (anyNumber w) kept)
-address-ordered n (w ∷ x ∷ items) kept = rw (item-number w) (written-more n (figure w) x items kept)
+pub write-ordered : (items : List (List ℕ)) (kept : List ℕ) → ordered (Form.Named Verb.Write) kept items ≡ twoNumbers write word items
+write-ordered = two-ordered Verb.Write write word word-ordered
 
-write-then : (v : Value) (items : List (List ℕ)) (kept : List ℕ) → ordered (numberedBy Verb.Write v) kept items ≡ asked (worded items) v
-unfolding numberedBy verbWith
-write-then Value.Absent items kept = wrong-ordered items kept
-write-then (Value.Of n) items kept = address-ordered n items kept
+ranged-then : (n : ℕ) (v : Value) (items : List (List ℕ)) (kept : List ℕ) → ordered (rangedBy n v) kept items ≡ alone (range n) v items
+unfolding ordered orderOf takenBy keptBy rangedBy
+ranged-then n Value.Absent [] kept = refl
+ranged-then n (Value.Of k) [] kept = refl
+ranged-then n Value.Absent (i ∷ items) kept = wrong-ordered items kept
+ranged-then n (Value.Of k) (i ∷ items) kept = wrong-ordered items kept
 
-never : (v : Value) → asked (λ n. malformed) v ≡ malformed
-never Value.Absent = refl
-never (Value.Of n) = refl
+count-ordered : (n : ℕ) (items : List (List ℕ)) (kept : List ℕ) → ordered (verbWith Verb.Range n) kept items ≡ second range figure items n
+unfolding ordered orderOf takenBy keptBy verbWith
+count-ordered n [] kept = refl
+count-ordered n (k ∷ []) kept = rw (item-number k) (ranged-then n (figure k) [] kept)
+count-ordered n (k ∷ x ∷ items) kept = rw (item-number k) (ranged-then n (figure k) (x ∷ items) kept)
 
-pub write-ordered : (items : List (List ℕ)) (kept : List ℕ) → ordered (Form.Named Verb.Write) kept items ≡ writeLine items
-unfolding ordered orderOf takenBy keptBy
-write-ordered [] kept = refl
-write-ordered (a ∷ []) kept = rw (item-number a) (write-then (figure a) [] kept ∙ never (figure a))
-write-ordered (a ∷ w ∷ []) kept = rw (item-number a) (write-then (figure a) (w ∷ []) kept)
-write-ordered (a ∷ w ∷ x ∷ items) kept = rw (item-number a) (write-then (figure a) (w ∷ x ∷ items) kept ∙ never (figure a))
+pub range-ordered : (items : List (List ℕ)) (kept : List ℕ) → ordered (Form.Named Verb.Range) kept items ≡ twoNumbers range figure items
+range-ordered = two-ordered Verb.Range range figure count-ordered

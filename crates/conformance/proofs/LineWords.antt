@@ -1,5 +1,5 @@
--- A line with words, `cut W..` or `cell A W..`, keeps all of them, or as many as there is room for.
-use Prim.Native.Nat.{ℕ, _+_}
+-- A line with words, `cut W..`, `cell A W..` or `otp A W..`, keeps all of them, or as many as there is room for.
+use Prim.Native.Nat.{ℕ, _+_, _≤_}
 use mathlib.Core.Path.{_≡_, refl, _∙_}
 use mathlib.Core.List.{List, [], _∷_, _++_, append-nil, append-assoc}
 use native.Mathlib.Omega.{arith}
@@ -11,11 +11,12 @@ use Rattle.language.specs.declared.Value.{Value}
 use Rattle.spelling.specs.declared.Item.{Item}
 use Rattle.spelling.specs.declared.Words.{Words}
 use Rattle.forms.specs.declared.Form.{Form}
+use Rattle.forms.specs.declared.Target.{Target}
 use Rattle.forms.specs.declared.Verb.{Verb}
 use Rattle.spelling.specs.Items.{wordsOf}
 use Rattle.forms.specs.Forms.{takenBy, keptBy, numberedBy, verbWith, countedTo, storedTo, cutsBy, setsBy, putCount, putWords}
-use Rattle.script.specs.Orders.{orderOf, cutOf as cutOrder, cellOf as cellOrder}
-use Rattle.language.specs.Language.{Meaning, malformed, cut, Listed, wrong, these, joined, words, figure, asked, cutOf, cellOf, cellLine}
+use Rattle.script.specs.Orders.{orderOf, sizeOf, setting, cutOf as cutOrder, setOf as setOrder}
+use Rattle.language.specs.Language.{Meaning, malformed, cut, cell, otp, Listed, wrong, these, joined, words, figure, asked, cutOf, setOf, setLine}
 use Rattle.language.specs.Orders.{seen}
 use Rattle.conformance.proofs.Cases.{by-test}
 use Rattle.conformance.proofs.ItemBytes.{itemOf, item-number}
@@ -32,7 +33,7 @@ rest-joined : (end : List ℕ → Meaning) (all some : List ℕ) (x : Listed) �
 rest-joined end all some wrong = refl
 rest-joined end all some (these others) = rw append-assoc
 
--- what `cut` and `cell` share
+-- what lines with words share
 pub record Gathers (form : ℕ → Form) (end : List ℕ → Meaning) : Type 0 where
   pub refuses : (n : ℕ) (i : Item) → wordsOf i ≡ Words.Wrong → takenBy (form n) i 16384 ≡ Form.Wrong
   pub counts : (n : ℕ) (i : Item) (t w : ℕ) → wordsOf i ≡ Words.Of t w → takenBy (form n) i 16384 ≡ form (putCount 16384 n t)
@@ -76,38 +77,62 @@ cut-ordered items kept size = gathered cut-gathers items 0 [] kept (kept-none 16
     same wrong = refl
     same (these debris) = refl
 
--- ---- `cell A W..`
+-- ---- `cell A W..`, `otp A W..`
 
-cell-ends : (a n : ℕ) (all kept : List ℕ) → Kept 16384 all n kept → seen (orderOf (Form.Sets a n) 16384) kept ≡ cellOf a (these all)
-unfolding orderOf cellOrder
-cell-ends a n all kept (whole same below begins size) =
-    by-test (leb (a + n) 16384)
-    (λ e. rw (le-leb n 16384 below, same, e, begins))
-    (λ e. rw (le-leb n 16384 below, same, e))
-cell-ends a n all kept (more over is ends size) = rw (lt-leb n 16384 (omega arith), lt-leb (a + length all) 16384 (omega arith))
+abbrev meant : Target → ℕ → List ℕ → Meaning
+meant Target.Cells = cell
+meant Target.OneTime = otp
 
-cell-gathers : (a : ℕ) → Gathers (Form.Sets a) (λ all. cellOf a (these all))
-unfolding takenBy keptBy countedTo storedTo setsBy
-cell-gathers a = record {
-  refuses = λ n i e. rw e;
-  counts = λ n i t w e. rw e;
-  stores = λ n i t w kept e. rw e;
-  ends = cell-ends a;
-}
+setting-seen : (t : Target) (a n : ℕ) (kept : List ℕ) → seen (setting t a n) kept ≡ meant t a (take n kept)
+setting-seen Target.Cells a n kept = refl
+setting-seen Target.OneTime a n kept = refl
 
-sets-ordered : (a : ℕ) (items : List (List ℕ)) (kept : List ℕ) → length kept ≡ 16384 → ordered (Form.Sets a 0) kept items ≡ cellOf a (words items)
-sets-ordered a items kept size = gathered (cell-gathers a) items 0 [] kept (kept-none 16384 kept size) ∙ same (words items)
-  where
-    same : (x : Listed) → rest (λ all. cellOf a (these all)) [] x ≡ cellOf a x
-    same wrong = refl
-    same (these cells) = refl
+-- there is room for more words than can be set
+size-within : (t : Target) → sizeOf t ≤ 16384
+size-within Target.Cells = omega arith
+size-within Target.OneTime = omega arith
 
-cell-then : (v : Value) (items : List (List ℕ)) (kept : List ℕ) → length kept ≡ 16384 → ordered (numberedBy Verb.Cell v) kept items ≡ asked (λ address. cellOf address (words items)) v
-unfolding numberedBy verbWith
-cell-then Value.Absent items kept size = wrong-ordered items kept
-cell-then (Value.Of a) items kept size = sets-ordered a items kept size
+-- a verb whose words are set there
+module _ (t : Target) (verb : Verb) (named : (a : ℕ) → verbWith verb a ≡ Form.Sets t a 0) where
+  set-ends : (a n : ℕ) (all kept : List ℕ) → Kept 16384 all n kept → seen (orderOf (Form.Sets t a n) 16384) kept ≡ setOf (meant t) (sizeOf t) a (these all)
+  unfolding orderOf setOrder
+  set-ends a n all kept (whole same below begins size) =
+      by-test (leb (a + n) (sizeOf t))
+      (λ e. rw (le-leb n 16384 below, same, e, setting-seen t a n kept, begins))
+      (λ e. rw (le-leb n 16384 below, same, e))
+  set-ends a n all kept (more over is ends size) =
+      rw (lt-leb n 16384 (omega arith), lt-leb (a + length all) (sizeOf t) (omega (arith, size-within t)))
 
-pub cell-ordered : (items : List (List ℕ)) (kept : List ℕ) → length kept ≡ 16384 → ordered (Form.Named Verb.Cell) kept items ≡ cellLine items
-unfolding ordered orderOf takenBy keptBy
-cell-ordered [] kept size = refl
-cell-ordered (a ∷ items) kept size = rw (item-number a) (cell-then (figure a) items kept size)
+  set-gathers : (a : ℕ) → Gathers (Form.Sets t a) (λ all. setOf (meant t) (sizeOf t) a (these all))
+  unfolding takenBy keptBy countedTo storedTo setsBy
+  set-gathers a = record {
+    refuses = λ n i e. rw e;
+    counts = λ n i k w e. rw e;
+    stores = λ n i k w kept e. rw e;
+    ends = set-ends a;
+  }
+
+  sets-ordered : (a : ℕ) (items : List (List ℕ)) (kept : List ℕ) → length kept ≡ 16384 → ordered (Form.Sets t a 0) kept items ≡ setOf (meant t) (sizeOf t) a (words items)
+  sets-ordered a items kept size = gathered (set-gathers a) items 0 [] kept (kept-none 16384 kept size) ∙ same (words items)
+    where
+      same : (x : Listed) → rest (λ all. setOf (meant t) (sizeOf t) a (these all)) [] x ≡ setOf (meant t) (sizeOf t) a x
+      same wrong = refl
+      same (these set) = refl
+
+  set-then : (v : Value) (items : List (List ℕ)) (kept : List ℕ) → length kept ≡ 16384 → ordered (numberedBy verb v) kept items ≡ asked (λ address. setOf (meant t) (sizeOf t) address (words items)) v
+  unfolding numberedBy
+  set-then Value.Absent items kept size = wrong-ordered items kept
+  set-then (Value.Of a) items kept size = rw (named a) (sets-ordered a items kept size)
+
+  set-ordered : (items : List (List ℕ)) (kept : List ℕ) → length kept ≡ 16384 → ordered (Form.Named verb) kept items ≡ setLine (meant t) (sizeOf t) items
+  unfolding ordered orderOf takenBy keptBy
+  set-ordered [] kept size = refl
+  set-ordered (a ∷ items) kept size = rw (item-number a) (set-then (figure a) items kept size)
+
+pub cell-ordered : (items : List (List ℕ)) (kept : List ℕ) → length kept ≡ 16384 → ordered (Form.Named Verb.Cell) kept items ≡ setLine cell 16384 items
+unfolding verbWith
+cell-ordered = set-ordered Target.Cells Verb.Cell (λ a. refl)
+
+pub otp-ordered : (items : List (List ℕ)) (kept : List ℕ) → length kept ≡ 16384 → ordered (Form.Named Verb.Otp) kept items ≡ setLine otp 256 items
+unfolding verbWith
+otp-ordered = set-ordered Target.OneTime Verb.Otp (λ a. refl)

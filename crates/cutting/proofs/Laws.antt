@@ -11,7 +11,7 @@ use Rattle.plain.specs.declared.Place.{Place}
 use Rattle.plain.specs.declared.Place.the-variants.{Nowhere, At}
 use Rattle.plain.specs.declared.BegunProgram.{BegunProgram}
 use Rattle.plain.specs.declared.BegunProgram.the-variants.{NoProgram, Writes}
-use Rattle.plain.specs.Lent.{lent}
+use Rattle.plain.specs.Lent.{Lent}
 use Rattle.plain.specs.Programs.{debrisWords}
 use Rattle.plain.specs.Cut.{begunBlock, begunProgram, blockDebris, programDebris, debrisNeeded}
 use Rattle.plain.proofs.CutCells.{block-enough}
@@ -26,9 +26,9 @@ debris-fits p (At b) NoProgram = omega (arith, block-fits p b, words-le p)
 debris-fits p (At b) (Writes d) = omega (arith, block-fits p b, words-le p)
 
 -- "A begun erase needs as many debris words as the block in hand has; a begun program needs one, after those."
-module _ {p : Part} {o : Operation} {cells debris : List ℕ} (cut : Cuttable p o cells debris) {block : Place} (hand : block ≡ begunBlock p o) where
+module _ {p : Part} {o : Operation} {l : Lent} {debris : List ℕ} (cut : Cuttable p o l debris) {block : Place} (hand : block ≡ begunBlock p o) where
   pub block-within : blockDebris p block ≤ length debris
-  block-within = rw hand (block-enough p o debris (lent cells) (cut .whole) (cut .enough))
+  block-within = rw hand (block-enough p o debris l (cut .whole) (cut .enough))
 
   pub program-within : (next : ℕ) → next ≤ blockDebris p block → programDebris (begunProgram p o) ≤ length (drop next debris)
   unfolding debrisNeeded

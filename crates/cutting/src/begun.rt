@@ -7,12 +7,13 @@ use plain::Inside;
 use plain::Operation;
 use plain::Place;
 use plain::Program;
+use plain::Spot;
 use plain::figures;
 
 // The block and the word that a cut would change.
 pub struct Exposed {
     pub block: Place,
-    pub word: Place,
+    pub word: Spot,
 }
 
 // The block whose erase has begun.
@@ -34,6 +35,7 @@ pub fn begun_block(part: Part, operation: Operation) -> Place
             if_begun(erase.left, figures::erase_time(part), erase.hand)
         }
         Operation::ChipErasing(erase) => if_begun(erase.left, figures::chip_time(part), erase.hand),
+        Operation::InOneTime(_) => Place::Nowhere,
     }
 }
 
@@ -62,6 +64,7 @@ pub fn begun_program(part: Part, operation: Operation) -> BegunProgram
             begun_inside(part, inside)
         }
         Operation::ChipErasing(_) => BegunProgram::NoProgram,
+        Operation::InOneTime(inside) => begun_inside(part, inside),
     }
 }
 
@@ -84,12 +87,15 @@ fn program_begun(part: Part, program: Program) -> BegunProgram
     BegunProgram::NoProgram
 }
 
-// The word that such a program is named by.
-pub fn word_of(program: BegunProgram) -> Place
+// The word that such a program is named by, and its array.
+pub fn word_of(program: BegunProgram) -> Spot
     ensures { λ r. ⌜ r ≡ wordOf program ⌝ }
 {
     match program {
-        BegunProgram::NoProgram => Place::Nowhere,
-        BegunProgram::Writes(written) => Place::At(programs::first_word(written)),
+        BegunProgram::NoProgram => Spot::NoWord,
+        BegunProgram::Writes(written) => Spot::In(
+            programs::array_written(written),
+            programs::first_word(written),
+        ),
     }
 }

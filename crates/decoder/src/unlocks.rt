@@ -20,35 +20,35 @@ pub fn at_ground(suspension: Suspension, address: usize, word: u16) -> Effect
     if word % 256 == 0x30 {
         return resumes(suspension);
     }
-    reset_or_sequence(word)
+    reset_or_sequence(suspension, word)
 }
 
 // 555H/AAH, then the second unlock write.
-pub fn after_unlock(address: usize, word: u16) -> Effect
-    ensures { λ r. ⌜ r ≡ afterUnlock address word ⌝ }
+pub fn after_unlock(suspension: Suspension, address: usize, word: u16) -> Effect
+    ensures { λ r. ⌜ r ≡ afterUnlock suspension address word ⌝ }
 {
     if is_second_unlock(address, word) {
         return Effect::Goes(Command::Entering(Cycle::Unlocked));
     }
-    reset_or_sequence(word)
+    reset_or_sequence(suspension, word)
 }
 
 // 80H, "then both unlock writes again".
-pub fn after_80(address: usize, word: u16) -> Effect
-    ensures { λ r. ⌜ r ≡ after80 address word ⌝ }
+pub fn after_80(suspension: Suspension, address: usize, word: u16) -> Effect
+    ensures { λ r. ⌜ r ≡ after80 suspension address word ⌝ }
 {
     if is_first_unlock(address, word) {
         return Effect::Goes(Command::Entering(Cycle::EraseUnlock));
     }
-    reset_or_sequence(word)
+    reset_or_sequence(suspension, word)
 }
 
 // The first of them, then the second.
-pub fn after_80_unlock(address: usize, word: u16) -> Effect
-    ensures { λ r. ⌜ r ≡ after80Unlock address word ⌝ }
+pub fn after_80_unlock(suspension: Suspension, address: usize, word: u16) -> Effect
+    ensures { λ r. ⌜ r ≡ after80Unlock suspension address word ⌝ }
 {
     if is_second_unlock(address, word) {
         return Effect::Goes(Command::Entering(Cycle::EraseUnlocked));
     }
-    reset_or_sequence(word)
+    reset_or_sequence(suspension, word)
 }

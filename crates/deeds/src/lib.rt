@@ -1,1 +1,1 @@
-// Definitions alone: what a line of a script does to the device and its cells, and what it is answered with.
+// Definitions alone: what a line of a script does to the device, its cells and its one-time words, and what it is answered with.

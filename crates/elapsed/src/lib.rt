@@ -16,22 +16,36 @@ pub enum Lapse {
     Passed(Moved),
 }
 
-pub fn wait(part: Part, device: Device, cells: &mut [u16], microseconds: u64) -> Lapse
-    ensures { λ r. ⌜ lapsed device r ≡ waitEvent part device (lent (now (cells .entry))) microseconds .answer ⌝ }
-    ensures { λ r. ⌜ now (cells .exit) ≡ waitEvent part device (lent (now (cells .entry))) microseconds .lent .cells ⌝ }
+pub fn wait(
+    part: Part,
+    device: Device,
+    cells: &mut [u16],
+    otp: &mut [u16],
+    microseconds: u64,
+) -> Lapse
+    ensures { λ r. ⌜ lapsed device r ≡ waitEvent part device (lent (now (cells .entry)) (now (otp .entry))) microseconds .answer ⌝ }
+    ensures { λ r. ⌜ now (cells .exit) ≡ waitEvent part device (lent (now (cells .entry)) (now (otp .entry))) microseconds .lent .cells ⌝ }
+    ensures { λ r. ⌜ now (otp .exit) ≡ waitEvent part device (lent (now (cells .entry)) (now (otp .entry))) microseconds .lent .otp ⌝ }
 {
-    let entry = judged::entry(part, soundness::is_sound(part, device), cells);
+    let entry = judged::entry(part, soundness::is_sound(part, device), cells, otp);
     match entry {
         Entry::Barred(refusal) => Lapse::Refused(refusal),
-        Entry::Admitted => admitted_wait(part, device, cells, microseconds),
+        Entry::Admitted => admitted_wait(part, device, cells, otp, microseconds),
     }
 }
 
-// Once the record is sound and the cells are whole.
-fn admitted_wait(part: Part, device: Device, cells: &mut [u16], microseconds: u64) -> Lapse
-    requires { ⌜ Fit part device (lent (now cells)) ⌝ }
-    ensures { λ r. ⌜ lapsed device r ≡ waitEvent part device (lent (now (cells .entry))) microseconds .answer ⌝ }
-    ensures { λ r. ⌜ now (cells .exit) ≡ waitEvent part device (lent (now (cells .entry))) microseconds .lent .cells ⌝ }
+// Once the record is sound and what is lent is whole.
+fn admitted_wait(
+    part: Part,
+    device: Device,
+    cells: &mut [u16],
+    otp: &mut [u16],
+    microseconds: u64,
+) -> Lapse
+    requires { ⌜ Fit part device (lent (now cells) (now otp)) ⌝ }
+    ensures { λ r. ⌜ lapsed device r ≡ waitEvent part device (lent (now (cells .entry)) (now (otp .entry))) microseconds .answer ⌝ }
+    ensures { λ r. ⌜ now (cells .exit) ≡ waitEvent part device (lent (now (cells .entry)) (now (otp .entry))) microseconds .lent .cells ⌝ }
+    ensures { λ r. ⌜ now (otp .exit) ≡ waitEvent part device (lent (now (cells .entry)) (now (otp .entry))) microseconds .lent .otp ⌝ }
 {
     let meter = device.meter;
     // The clock is at most its limit, so the difference is there; the sum might not be.
@@ -39,29 +53,37 @@ fn admitted_wait(part: Part, device: Device, cells: &mut [u16], microseconds: u6
         return Lapse::Refused(Refusal::Clock);
     }
     let operation = device.operation;
-    Lapse::Passed(waiting::pass(part, meter, operation, cells, microseconds))
+    Lapse::Passed(waiting::pass(part, meter, operation, cells, otp, microseconds))
 }
 
-pub fn cut(part: Part, device: Device, cells: &mut [u16], debris: &[u16]) -> Entry
-    ensures { λ r. ⌜ cutBy device r ≡ cutEvent part device (lent (now (cells .entry))) (now (debris .entry)) .answer ⌝ }
-    ensures { λ r. ⌜ now (cells .exit) ≡ cutEvent part device (lent (now (cells .entry))) (now (debris .entry)) .lent .cells ⌝ }
+pub fn cut(part: Part, device: Device, cells: &mut [u16], otp: &mut [u16], debris: &[u16]) -> Entry
+    ensures { λ r. ⌜ cutBy device r ≡ cutEvent part device (lent (now (cells .entry)) (now (otp .entry))) (now (debris .entry)) .answer ⌝ }
+    ensures { λ r. ⌜ now (cells .exit) ≡ cutEvent part device (lent (now (cells .entry)) (now (otp .entry))) (now (debris .entry)) .lent .cells ⌝ }
+    ensures { λ r. ⌜ now (otp .exit) ≡ cutEvent part device (lent (now (cells .entry)) (now (otp .entry))) (now (debris .entry)) .lent .otp ⌝ }
 {
-    let entry = judged::entry(part, soundness::is_sound(part, device), cells);
+    let entry = judged::entry(part, soundness::is_sound(part, device), cells, otp);
     match entry {
         Entry::Barred(refusal) => Entry::Barred(refusal),
-        Entry::Admitted => admitted_cut(part, device, cells, debris),
+        Entry::Admitted => admitted_cut(part, device, cells, otp, debris),
     }
 }
 
-fn admitted_cut(part: Part, device: Device, cells: &mut [u16], debris: &[u16]) -> Entry
-    requires { ⌜ Fit part device (lent (now cells)) ⌝ }
-    ensures { λ r. ⌜ cutBy device r ≡ cutEvent part device (lent (now (cells .entry))) (now (debris .entry)) .answer ⌝ }
-    ensures { λ r. ⌜ now (cells .exit) ≡ cutEvent part device (lent (now (cells .entry))) (now (debris .entry)) .lent .cells ⌝ }
+fn admitted_cut(
+    part: Part,
+    device: Device,
+    cells: &mut [u16],
+    otp: &mut [u16],
+    debris: &[u16],
+) -> Entry
+    requires { ⌜ Fit part device (lent (now cells) (now otp)) ⌝ }
+    ensures { λ r. ⌜ cutBy device r ≡ cutEvent part device (lent (now (cells .entry)) (now (otp .entry))) (now (debris .entry)) .answer ⌝ }
+    ensures { λ r. ⌜ now (cells .exit) ≡ cutEvent part device (lent (now (cells .entry)) (now (otp .entry))) (now (debris .entry)) .lent .cells ⌝ }
+    ensures { λ r. ⌜ now (otp .exit) ≡ cutEvent part device (lent (now (cells .entry)) (now (otp .entry))) (now (debris .entry)) .lent .otp ⌝ }
 {
     let operation = device.operation;
     if debris.len() < cutting::debris_needed(part, operation) {
         return Entry::Barred(Refusal::Debris);
     }
-    cutting::cut_cells(part, operation, cells, debris);
+    cutting::cut_lent(part, operation, cells, otp, debris);
     Entry::Admitted
 }

@@ -1,7 +1,7 @@
 // What C asks of a record besides its four events, and of the blocks of a part.
 ghost use mathlib.Core.Path.{_≡_};
 ghost use Rattle.face.specs.Face.{standsSound, faceClock, faceCharge, faceFirstWord, faceBlockWords};
-ghost use Rattle.asked.specs.Asked.{faceExposedBlock, faceExposedWord, faceReadsCells};
+ghost use Rattle.asked.specs.Asked.{faceExposedBlock, faceExposedWord, faceExposedArray, faceReadsCells};
 
 #[no_mangle]
 pub extern "C" fn k5l_sound(part: u64, words: &[u64]) -> bool
@@ -22,6 +22,13 @@ pub extern "C" fn k5l_exposed_word(part: u64, words: &[u64]) -> u64
     ensures { λ r. ⌜ r ≡ faceExposedWord part (now (words .entry)) ⌝ }
 {
     asked::exposed_word(part, words)
+}
+
+#[no_mangle]
+pub extern "C" fn k5l_exposed_array(part: u64, words: &[u64]) -> u64
+    ensures { λ r. ⌜ r ≡ faceExposedArray part (now (words .entry)) ⌝ }
+{
+    asked::exposed_array(part, words)
 }
 
 #[no_mangle]

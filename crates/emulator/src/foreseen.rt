@@ -1,6 +1,6 @@
 // What C asks of what is to come if nobody writes, and of a cut that might.
 ghost use mathlib.Core.Path.{_≡_};
-ghost use Rattle.outlook.specs.Foreseen.{faceUntilEnd, faceUntilChange, faceChangingBlock, faceChangingWord, faceDebrisNeeded};
+ghost use Rattle.outlook.specs.Foreseen.{faceUntilEnd, faceUntilChange, faceChangingBlock, faceChangingWord, faceChangingArray, faceDebrisNeeded};
 
 #[no_mangle]
 pub extern "C" fn k5l_until_end(part: u64, words: &[u64]) -> u64
@@ -28,6 +28,13 @@ pub extern "C" fn k5l_changing_word(part: u64, words: &[u64]) -> u64
     ensures { λ r. ⌜ r ≡ faceChangingWord part (now (words .entry)) ⌝ }
 {
     outlook::changing_word(part, words)
+}
+
+#[no_mangle]
+pub extern "C" fn k5l_changing_array(part: u64, words: &[u64]) -> u64
+    ensures { λ r. ⌜ r ≡ faceChangingArray part (now (words .entry)) ⌝ }
+{
+    outlook::changing_array(part, words)
 }
 
 #[no_mangle]

@@ -1,8 +1,9 @@
-// The C face: a device whose record C holds as words, and whose cells it lends (include/k5l2931cam.h). Every part number,
-// record, length and number is answered; there is nothing to check before a call. An idle device goes a short way. The long one is
-// called in two places, so the compiler leaves it out of line: what it saves on the stack is not saved for the short one.
+// The C face: a device whose record C holds as words, and whose cells and one-time words it lends (include/k5l2931cam.h). Every part
+// number, record, length and number is answered; there is nothing to check before a call. An idle device goes a short way. The long
+// one is called in two places, so the compiler leaves it out of line: what it saves on the stack is not saved for the short one.
 ghost use mathlib.Core.Path.{_≡_};
 ghost use Rattle.face.specs.Face.{packed, freshRefusal, freshImage, carriedRefusal, carriedImage, faceRead, faceWrite, faceWait, faceCut};
+ghost use Rattle.face.specs.Range.{faceRange};
 
 pub mod addresses;
 pub mod asked_of;
@@ -25,17 +26,23 @@ pub extern "C" fn k5l_carry(stored: &[u64], words: &mut [u64]) -> u64
 }
 
 #[no_mangle]
-pub extern "C" fn k5l_read(part: u64, words: &mut [u64], cells: &[u16], address: usize) -> u64
-    ensures { λ r. ⌜ r ≡ packed (faceRead part (now (words .entry)) (now (cells .entry)) address) ⌝ }
-    ensures { λ r. ⌜ now (words .exit) ≡ faceRead part (now (words .entry)) (now (cells .entry)) address .image ⌝ }
+pub extern "C" fn k5l_read(
+    part: u64,
+    words: &mut [u64],
+    cells: &[u16],
+    otp: &[u16],
+    address: usize,
+) -> u64
+    ensures { λ r. ⌜ r ≡ packed (faceRead part (now (words .entry)) (now (cells .entry)) (now (otp .entry)) address) ⌝ }
+    ensures { λ r. ⌜ now (words .exit) ≡ faceRead part (now (words .entry)) (now (cells .entry)) (now (otp .entry)) address .image ⌝ }
 {
     if !calls::is_part(part) {
-        return bus::read(part, words, cells, address);
+        return bus::read(part, words, cells, otp, address);
     }
     if image::is_idle(words) {
-        return idling::read(part, words, cells, address);
+        return idling::read(part, words, cells, otp, address);
     }
-    bus::read(part, words, cells, address)
+    bus::read(part, words, cells, otp, address)
 }
 
 #[no_mangle]
@@ -43,19 +50,20 @@ pub extern "C" fn k5l_write(
     part: u64,
     words: &mut [u64],
     cells: &[u16],
+    otp: &[u16],
     address: usize,
     word: u16,
 ) -> u64
-    ensures { λ r. ⌜ r ≡ faceWrite part (now (words .entry)) (now (cells .entry)) address word .refusal ⌝ }
-    ensures { λ r. ⌜ now (words .exit) ≡ faceWrite part (now (words .entry)) (now (cells .entry)) address word .image ⌝ }
+    ensures { λ r. ⌜ r ≡ faceWrite part (now (words .entry)) (now (cells .entry)) (now (otp .entry)) address word .refusal ⌝ }
+    ensures { λ r. ⌜ now (words .exit) ≡ faceWrite part (now (words .entry)) (now (cells .entry)) (now (otp .entry)) address word .image ⌝ }
 {
     if !calls::is_part(part) {
-        return bus::write(part, words, cells, address, word);
+        return bus::write(part, words, cells, otp, address, word);
     }
     if image::is_idle(words) {
-        return idling::write(part, words, cells, address, word);
+        return idling::write(part, words, cells, otp, address, word);
     }
-    bus::write(part, words, cells, address, word)
+    bus::write(part, words, cells, otp, address, word)
 }
 
 #[no_mangle]
@@ -63,26 +71,50 @@ pub extern "C" fn k5l_wait(
     part: u64,
     words: &mut [u64],
     cells: &mut [u16],
+    otp: &mut [u16],
     microseconds: u64,
 ) -> u64
-    ensures { λ r. ⌜ r ≡ faceWait part (now (words .entry)) (now (cells .entry)) microseconds .refusal ⌝ }
-    ensures { λ r. ⌜ now (words .exit) ≡ faceWait part (now (words .entry)) (now (cells .entry)) microseconds .image ⌝ }
-    ensures { λ r. ⌜ now (cells .exit) ≡ faceWait part (now (words .entry)) (now (cells .entry)) microseconds .cells ⌝ }
+    ensures { λ r. ⌜ r ≡ faceWait part (now (words .entry)) (now (cells .entry)) (now (otp .entry)) microseconds .refusal ⌝ }
+    ensures { λ r. ⌜ now (words .exit) ≡ faceWait part (now (words .entry)) (now (cells .entry)) (now (otp .entry)) microseconds .image ⌝ }
+    ensures { λ r. ⌜ now (cells .exit) ≡ faceWait part (now (words .entry)) (now (cells .entry)) (now (otp .entry)) microseconds .cells ⌝ }
+    ensures { λ r. ⌜ now (otp .exit) ≡ faceWait part (now (words .entry)) (now (cells .entry)) (now (otp .entry)) microseconds .otp ⌝ }
 {
     if !calls::is_part(part) {
-        return lapses::wait(part, words, cells, microseconds);
+        return lapses::wait(part, words, cells, otp, microseconds);
     }
     if image::is_idle(words) {
-        return idling::wait(part, words, cells, microseconds);
+        return idling::wait(part, words, cells, otp, microseconds);
     }
-    lapses::wait(part, words, cells, microseconds)
+    lapses::wait(part, words, cells, otp, microseconds)
 }
 
 #[no_mangle]
-pub extern "C" fn k5l_cut(part: u64, words: &mut [u64], cells: &mut [u16], debris: &[u16]) -> u64
-    ensures { λ r. ⌜ r ≡ faceCut part (now (words .entry)) (now (cells .entry)) (now (debris .entry)) .refusal ⌝ }
-    ensures { λ r. ⌜ now (words .exit) ≡ faceCut part (now (words .entry)) (now (cells .entry)) (now (debris .entry)) .image ⌝ }
-    ensures { λ r. ⌜ now (cells .exit) ≡ faceCut part (now (words .entry)) (now (cells .entry)) (now (debris .entry)) .cells ⌝ }
+pub extern "C" fn k5l_cut(
+    part: u64,
+    words: &mut [u64],
+    cells: &mut [u16],
+    otp: &mut [u16],
+    debris: &[u16],
+) -> u64
+    ensures { λ r. ⌜ r ≡ faceCut part (now (words .entry)) (now (cells .entry)) (now (otp .entry)) (now (debris .entry)) .refusal ⌝ }
+    ensures { λ r. ⌜ now (words .exit) ≡ faceCut part (now (words .entry)) (now (cells .entry)) (now (otp .entry)) (now (debris .entry)) .image ⌝ }
+    ensures { λ r. ⌜ now (cells .exit) ≡ faceCut part (now (words .entry)) (now (cells .entry)) (now (otp .entry)) (now (debris .entry)) .cells ⌝ }
+    ensures { λ r. ⌜ now (otp .exit) ≡ faceCut part (now (words .entry)) (now (cells .entry)) (now (otp .entry)) (now (debris .entry)) .otp ⌝ }
 {
-    lapses::cut(part, words, cells, debris)
+    lapses::cut(part, words, cells, otp, debris)
+}
+
+// An idle device has no range to hand back, so it is asked as any other.
+#[no_mangle]
+pub extern "C" fn k5l_range(
+    part: u64,
+    words: &[u64],
+    cells: &[u16],
+    otp: &[u16],
+    first: usize,
+    count: usize,
+) -> u64
+    ensures { λ r. ⌜ r ≡ faceRange part (now (words .entry)) (now (cells .entry)) (now (otp .entry)) first count ⌝ }
+{
+    spans::range(part, words, cells, otp, first, count)
 }

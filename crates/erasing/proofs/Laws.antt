@@ -16,6 +16,7 @@ use Rattle.geometry.proofs.Laid.{block-fits}
 use Rattle.meter.specs.declared.Meter.{Meter}
 use Rattle.meter.specs.Meter.{metered}
 use Rattle.protection.specs.declared.Protection.{Protection}
+use Rattle.plain.specs.declared.Array.the-variants.{Main, OneTime}
 use Rattle.plain.specs.declared.Erase.{Erase}
 use Rattle.plain.specs.declared.Operation.{Operation}
 use Rattle.plain.specs.declared.Operation.the-variants.{Idle, Window, Erasing}
@@ -28,6 +29,7 @@ use Rattle.plain.proofs.Facts.{EraseFacts, window, erasing, chip-erasing}
 use Rattle.plain.proofs.Facts as known
 use Rattle.plain.proofs.FactsHold.{erasing-holds}
 use Rattle.plain.proofs.FigureLaws.{erase-some, chip-some}
+use Rattle.plain.proofs.Lents.{whole-both}
 use Rattle.plain.proofs.InTime.{idle-still, window-running, erase-running, blockTime}
 use Rattle.plain.proofs.InTime as in-time
 use Rattle.plain.proofs.SoundTime.{closed, erasing-any, chip-any}
@@ -57,9 +59,9 @@ any-hand p bits true e s full d listed = chip-any p bits e s _ full listed (omeg
 any-hand p bits false e s full d listed = erasing-any p bits e s _ full listed (omega (arith, d, time-some p false)) (omega (arith, d))
 
 -- a window that ends leaves a wait that is passable, too
-pub window-closes : (p : Part) (m : Meter) (e : Erase) (long n : ℕ) → Passable p m (Window e) long n → e .left ≤ n
-    → Passable p (metered m (e .left) (e .left * standbyCurrent p)) (erases false (eraseLeft e (eraseTime p))) long (n - e .left)
-window-closes p m e long n f h =
+pub window-closes : (p : Part) (m : Meter) (e : Erase) (l : Lent) (n : ℕ) → Passable p m (Window e) l n → e .left ≤ n
+    → Passable p (metered m (e .left) (e .left * standbyCurrent p)) (erases false (eraseLeft e (eraseTime p))) l (n - e .left)
+window-closes p m e l n f h =
     record {
       room = room-stood-by p m n (e .left) h (f .room);
       whole = f .whole;
@@ -76,7 +78,7 @@ module _ (p : Part) (m : Meter) (l : Lent) (n : ℕ) where
 
   -- ---- the window
 
-  pub window-goes-on : (e : Erase) → n < e .left → Passed p n (moment m (Window e) l) (moved (moment (stands n) (Window (eraseLeft e (e .left - n))) l)) (l .cells)
+  pub window-goes-on : (e : Erase) → n < e .left → Passed p n (moment m (Window e) l) (moved (moment (stands n) (Window (eraseLeft e (e .left - n))) l)) l
   window-goes-on e h =
       passed p n (moment m (Window e) l) (moment (stands n) (Window (eraseLeft e (e .left - n))) l)
       (drift p _ _ _ _ (window-running p e) n (e .left) m l h)
@@ -88,7 +90,7 @@ module _ (p : Part) (m : Meter) (l : Lent) (n : ℕ) where
   -- ---- an erase
 
   pub erase-goes-on : (chip : Bool) (e : Erase) → n < e .left
-      → Passed p n (moment m (erases chip e) l) (moved (moment (runs n) (erases chip (eraseLeft e (e .left - n))) l)) (l .cells)
+      → Passed p n (moment m (erases chip e) l) (moved (moment (runs n) (erases chip (eraseLeft e (e .left - n))) l)) l
   erase-goes-on chip e h =
       passed p n (moment m (erases chip e) l) (moment (runs n) (erases chip (eraseLeft e (e .left - n))) l)
       (drift p _ _ _ _ (erase-running p chip e) n (e .left) m l h)
@@ -106,7 +108,7 @@ module _ (p : Part) (m : Meter) (l : Lent) (n : ℕ) where
 
   -- the last block is finished
   block-last : (chip : Bool) (e : Erase) → 1 ≤ e .left → e .left ≤ n → blockCount p ≤ afterHand e (blockTime p chip) .hand
-      → Passed p n (moment m (erases chip e) l) (moved (moment (metered (runs (e .left)) (n - e .left) ((n - e .left) * standbyCurrent p)) Idle l)) (eraseFinished p e l .cells)
+      → Passed p n (moment m (erases chip e) l) (moved (moment (metered (runs (e .left)) (n - e .left) ((n - e .left) * standbyCurrent p)) Idle l)) (eraseFinished p e l)
   block-last chip e s h k =
       passed p n (moment m (erases chip e) l) (moment (metered (runs (e .left)) (n - e .left) ((n - e .left) * standbyCurrent p)) Idle (eraseFinished p e l))
       (block-done chip e Idle s h (rw (le-ltb _ (blockCount p) k)) ∙ still p Idle (standbyCurrent p) (idle-still p) (n - e .left) (runs (e .left)) (eraseFinished p e l))
@@ -115,7 +117,7 @@ module _ (p : Part) (m : Meter) (l : Lent) (n : ℕ) where
 
 pub record Underway (p : Part) (chip : Bool) (n : ℕ) (from : Moment) (l : Lent) (e : Erase) (m : Meter) (rest : ℕ) : Type 0 where
   pub same : ticks p rest (moment m (erases chip e) l) ≡ ticks p n from
-  pub fit : Passable p m (erases chip e) (length (l .cells)) rest
+  pub fit : Passable p m (erases chip e) l rest
 
 module _ (p : Part) (chip : Bool) (n : ℕ) (from : Moment) (l : Lent) (e : Erase) (m : Meter) (rest : ℕ) (u : Underway p chip n from l e m rest) where
   erase-facts : EraseFacts p (u .fit .bits) e (blockTime p chip)
@@ -129,7 +131,7 @@ module _ (p : Part) (chip : Bool) (n : ℕ) (from : Moment) (l : Lent) (e : Eras
 
   -- the cells are as many as before
   pub wiped-long : length (eraseFinished p e l .cells) ≡ wordCount p
-  wiped-long = length-erased (l .cells) (firstOf p (e .hand)) (sizeOf p (e .hand)) (rw (u .fit .whole) (block-fits p (e .hand))) ∙ u .fit .whole
+  wiped-long = length-erased (l .cells) (firstOf p (e .hand)) (sizeOf p (e .hand)) (rw (u .fit .whole Main) (block-fits p (e .hand))) ∙ u .fit .whole Main
 
   pub block-turn : e .left ≤ rest → afterHand e (blockTime p chip) .hand < blockCount p
       → Underway p chip n from (eraseFinished p e l) (afterHand e (blockTime p chip)) (metered m (e .left) (e .left * runningCurrent p)) (rest - e .left)
@@ -138,16 +140,16 @@ module _ (p : Part) (chip : Bool) (n : ℕ) (from : Moment) (l : Lent) (e : Eras
         same = sym (block-next p m l rest chip e some-left h k) ∙ u .same;
         fit = record {
           room = room-ran p m rest (e .left) h (u .fit .room);
-          whole = wiped-long;
+          whole = whole-both p (eraseFinished p e l) wiped-long (u .fit .whole OneTime);
           bits = u .fit .bits;
           sound = any-hand p (u .fit .bits) chip e (u .fit .sound) (blockTime p chip) refl (first-has (e .list) (suc (e .hand)) (omega (arith, k, blocks-most p)));
         };
       }
 
   pub erase-over : e .left ≤ rest → blockCount p ≤ afterHand e (blockTime p chip) .hand
-      → Passed p n from (moved (moment (metered (metered m (e .left) (e .left * runningCurrent p)) (rest - e .left) ((rest - e .left) * standbyCurrent p)) Idle l)) (eraseFinished p e l .cells)
+      → Passed p n from (moved (moment (metered (metered m (e .left) (e .left * runningCurrent p)) (rest - e .left) ((rest - e .left) * standbyCurrent p)) Idle l)) (eraseFinished p e l)
   erase-over h k = instead p n rest from (moment m (erases chip e) l) _ _ (u .same) (block-last p m l rest chip e some-left h k)
 
   pub erase-stops : rest < e .left
-      → Passed p n from (moved (moment (metered m rest (rest * runningCurrent p)) (erases chip (eraseLeft e (e .left - rest))) l)) (l .cells)
+      → Passed p n from (moved (moment (metered m rest (rest * runningCurrent p)) (erases chip (eraseLeft e (e .left - rest))) l)) l
   erase-stops h = instead p n rest from (moment m (erases chip e) l) _ _ (u .same) (erase-goes-on p m l rest chip e h)

@@ -2,11 +2,12 @@
 ghost use mathlib.Core.Path.{_≡_};
 ghost use Prim.Native.Nat.{_<_};
 ghost use lib.ListN.{length};
-ghost use Rattle.geometry.specs.Parts.{wordCount, blockCount};
+ghost use Rattle.cells.specs.Cells.{erased};
+ghost use Rattle.geometry.specs.Parts.{wordCount, blockCount, firstOf, sizeOf};
 ghost use Rattle.plain.specs.declared.Operation.the-variants.{Window};
 ghost use Rattle.plain.specs.Lent.{lent};
 ghost use Rattle.plain.specs.Record.{eraseLeft};
-ghost use Rattle.plain.specs.Time.{eraseFinished, moment, ticks};
+ghost use Rattle.plain.specs.Time.{moment, ticks};
 ghost use Rattle.plain.proofs.InTime.{erasing, blockTime};
 ghost use Rattle.moments.specs.Moments.{Passable, moved};
 ghost use Rattle.erasing.specs.Hand.{afterHand};
@@ -18,10 +19,18 @@ use plain::Operation;
 use plain::figures;
 
 // The window runs out, and the first block is in hand with its full time.
-pub fn pass_window(part: Part, meter: Meter, e: Erase, cells: &mut [u16], n: u64) -> Moved
-    requires { ⌜ Passable part meter (Window e) (length (now cells)) n ⌝ }
-    ensures { λ r. ⌜ r ≡ moved (ticks part n (moment meter (Window e) (lent (now (cells .entry))))) ⌝ }
-    ensures { λ r. ⌜ now (cells .exit) ≡ ticks part n (moment meter (Window e) (lent (now (cells .entry)))) .lent .cells ⌝ }
+pub fn pass_window(
+    part: Part,
+    meter: Meter,
+    e: Erase,
+    cells: &mut [u16],
+    otp: &[u16],
+    n: u64,
+) -> Moved
+    requires { ⌜ Passable part meter (Window e) (lent (now cells) (now otp)) n ⌝ }
+    ensures { λ r. ⌜ r ≡ moved (ticks part n (moment meter (Window e) (lent (now (cells .entry)) (now (otp .entry))))) ⌝ }
+    ensures { λ r. ⌜ now (cells .exit) ≡ ticks part n (moment meter (Window e) (lent (now (cells .entry)) (now (otp .entry)))) .lent .cells ⌝ }
+    ensures { λ r. ⌜ now (otp .entry) ≡ ticks part n (moment meter (Window e) (lent (now (cells .entry)) (now (otp .entry)))) .lent .otp ⌝ }
 {
     let left = e.left;
     if n < left {
@@ -36,6 +45,7 @@ pub fn pass_window(part: Part, meter: Meter, e: Erase, cells: &mut [u16], n: u64
         moments::stood_by(part, meter, left),
         with_left(e, block_time(part, false)),
         cells,
+        otp,
         n - left,
     )
 }
@@ -47,11 +57,13 @@ pub fn pass_erase(
     meter: Meter,
     e: Erase,
     cells: &mut [u16],
+    otp: &[u16],
     n: u64,
 ) -> Moved
-    requires { ⌜ Passable part meter (erasing chip e) (length (now cells)) n ⌝ }
-    ensures { λ r. ⌜ r ≡ moved (ticks part n (moment meter (erasing chip e) (lent (now (cells .entry))))) ⌝ }
-    ensures { λ r. ⌜ now (cells .exit) ≡ ticks part n (moment meter (erasing chip e) (lent (now (cells .entry)))) .lent .cells ⌝ }
+    requires { ⌜ Passable part meter (erasing chip e) (lent (now cells) (now otp)) n ⌝ }
+    ensures { λ r. ⌜ r ≡ moved (ticks part n (moment meter (erasing chip e) (lent (now (cells .entry)) (now (otp .entry))))) ⌝ }
+    ensures { λ r. ⌜ now (cells .exit) ≡ ticks part n (moment meter (erasing chip e) (lent (now (cells .entry)) (now (otp .entry)))) .lent .cells ⌝ }
+    ensures { λ r. ⌜ now (otp .entry) ≡ ticks part n (moment meter (erasing chip e) (lent (now (cells .entry)) (now (otp .entry)))) .lent .otp ⌝ }
 {
     let mut at = e;
     let mut spent = meter;
@@ -94,7 +106,7 @@ fn after(e: Erase, full: u64) -> Erase
 // The block in hand is finished.
 fn finish(part: Part, e: Erase, cells: &mut [u16])
     requires { ⌜ length (now cells) ≡ wordCount part ⌝ }
-    ensures { λ r. ⌜ now (cells .exit) ≡ eraseFinished part e (lent (now (cells .entry))) .cells ⌝ }
+    ensures { λ r. ⌜ now (cells .exit) ≡ erased (now (cells .entry)) (firstOf part (e .hand)) (sizeOf part (e .hand)) ⌝ }
 {
     let first = part.first_of(e.hand);
     let size = part.size_of(e.hand);

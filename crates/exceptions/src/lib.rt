@@ -1,11 +1,14 @@
 // The lines that an accepted cut adds to its answer: each function puts its line into a lent buffer from `at` on.
 ghost use mathlib.Core.Path.{_≡_};
 ghost use Prim.Native.Nat.{_+_, _≤_};
-ghost use lib.ListN.{length};
+ghost use lib.ListN.{length, getD};
+ghost use Rattle.plain.specs.Lent.{lent};
 ghost use Rattle.printing.specs.Put.{Put};
-ghost use Rattle.exceptions.specs.Exceptions.{blockLines, wordLines, cellAt};
+ghost use Rattle.exceptions.specs.Exceptions.{blockLines, wordLines, wordIn};
 use geometry::Part;
+use plain::Array;
 use plain::Place;
+use plain::Spot;
 
 pub fn block(out: &mut [u8], at: usize, line: u64, place: Place) -> usize
     requires { ⌜ at + 90 ≤ length (now out) ⌝ }
@@ -23,28 +26,36 @@ pub fn block(out: &mut [u8], at: usize, line: u64, place: Place) -> usize
     }
 }
 
-pub fn word(out: &mut [u8], at: usize, line: u64, place: Place, before: u16, after: u16) -> usize
+pub fn word(out: &mut [u8], at: usize, line: u64, spot: Spot, before: u16, after: u16) -> usize
     requires { ⌜ at + 57 ≤ length (now out) ⌝ }
-    ensures { λ r. ⌜ Put (now (out .entry)) at (now (out .exit)) r (wordLines line place before after) ⌝ }
+    ensures { λ r. ⌜ Put (now (out .entry)) at (now (out .exit)) r (wordLines line spot before after) ⌝ }
     ensures { λ r. ⌜ r ≤ at + 57 ⌝ }
 {
-    match place {
-        Place::Nowhere => at,
-        Place::At(address) => telling::word(out, at, line, address, before, after),
+    match spot {
+        Spot::NoWord => at,
+        Spot::In(array, address) => telling::word(out, at, line, array, address, before, after),
     }
 }
 
-// The cell at a place; 0 if there is none.
-pub fn cell_at(cells: &[u16], place: Place) -> u16
-    ensures { λ r. ⌜ r ≡ cellAt (now (cells .entry)) place ⌝ }
+// The word at a spot; 0 if there is none.
+pub fn word_at(cells: &[u16], otp: &[u16], spot: Spot) -> u16
+    ensures { λ r. ⌜ r ≡ wordIn (lent (now (cells .entry)) (now (otp .entry))) spot ⌝ }
 {
-    match place {
-        Place::Nowhere => 0,
-        Place::At(address) => {
-            if address < cells.len() {
-                return cells[address];
-            }
-            0
-        }
+    match spot {
+        Spot::NoWord => 0,
+        Spot::In(array, address) => match array {
+            Array::Main => nth(cells, address),
+            Array::OneTime => nth(otp, address),
+        },
     }
+}
+
+// The word at an index; 0 past the last.
+fn nth(words: &[u16], at: usize) -> u16
+    ensures { λ r. ⌜ r ≡ getD (now (words .entry)) at 0 ⌝ }
+{
+    if at < words.len() {
+        return words[at];
+    }
+    0
 }

@@ -1,3 +1,4 @@
 pub mod Worked
 pub mod Faces
+pub mod Ranges
 pub mod Kept

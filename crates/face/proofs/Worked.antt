@@ -1,84 +1,88 @@
 -- The definitions and the answers written out agree: each by computing.
 use Prim.Native.Nat.{ℕ}
 use mathlib.Core.Path.{_≡_, refl}
-use mathlib.Core.Bool.{Bool}
 use mathlib.Core.List.{List, [], _∷_, map}
 use lib.ListN.{replicate}
 use Rattle.blocks.specs.Blocks.{has, pack, setOf, some}
+use Rattle.cells.specs.Cells.{programmed, cutShort}
 use Rattle.geometry.specs.declared.Part.the-variants.{Small, Full}
 use Rattle.geometry.specs.Parts.{blockCount, unitOf, sizeIn, firstIn}
+use Rattle.protection.specs.Protection.{wordLockedBy}
+use Rattle.plain.specs.declared.Array.the-variants.{Main, OneTime}
 use Rattle.plain.specs.declared.Place.the-variants.{Nowhere, At}
-use Rattle.plain.specs.Commands.{atGround, entered, written, effected}
-use Rattle.plain.specs.Cut.{begunBlock, begunProgram, blockDebris, programDebris, debrisNeeded, blockCut, programCut, cutLent}
-use Rattle.plain.specs.Figures.{runningCurrent, clockLimit}
-use Rattle.plain.specs.Machine.{entry, climbed, ladder, readEvent, writeEvent, cutEvent}
-use Rattle.plain.specs.Operations.{runningOf, suspensionOf}
+use Rattle.plain.specs.declared.Spot.the-variants.{NoWord, In}
+use Rattle.plain.specs.Commands.{isSuspended, atGround, afterUnlocked, afterLock68, continued, entered as cycled, unlessRuns, written, effected}
+use Rattle.plain.specs.Cut.{begunBlock, begunInside, begunProgram, blockDebris, programDebris, debrisNeeded, blockCut, programCut, cutLent}
+use Rattle.plain.specs.Figures.{runningCurrent, programTime, clockLimit}
+use Rattle.plain.specs.Machine.{entry, climbed, ladder, readEvent, writeEvent, waitEvent, cutEvent, rangeEvent, rangeWords}
+use Rattle.plain.specs.Operations.{runningInside, runningOf, suspensionOf}
+use Rattle.plain.specs.Programs.{arrayWritten, firstWord, liesIn, barred, finished, debrisWords, debrisFor, cutOff}
 use Rattle.plain.specs.Refusals.{number}
-use Rattle.plain.specs.Sound.{meterSound, operationSound, cycleInRange, cycleInSuspension, cycleSound, stillCommand, isStill, commandSound, sound}
-use Rattle.plain.specs.Status.{polls, readingOn, rests, look}
-use Rattle.layout.specs.Commands.{cycleWords, commandWords, commandFits, cycleOf, commandOf}
-use Rattle.layout.specs.Operations.{operationParts, operationNumbered, operationOf}
-use Rattle.layout.specs.Image.{imageOf, wordsFrom, zeros, marked, eraseFits, programFits, operationFits, recoveryFits, wellFormed, deviceOf}
+use Rattle.plain.specs.Sound.{meterSound, programSound, enteredSound, operationSound, cycleUnsuspended, cycleSound, readingSound, stillCommand, isGround, isStill, commandSound, sound}
+use Rattle.plain.specs.Status.{polls, givenAt, givenWord, readingOn, readingWord, rests, look}
+use Rattle.plain.specs.Time.{current, insideTick, operationTick, lentTick, tick, ticks}
+use Rattle.layout.specs.Commands.{cycleWords, readingWords, commandWords, commandFits, cycleOf, commandOf}
+use Rattle.layout.specs.Operations.{enteredParts, operationParts, operationNumbered, operationOutside, insideNumbered, operationOf}
+use Rattle.layout.specs.Image.{imageOf, wordsFrom, zeros, marked, eraseFits, programFits, operationFits, recoveryFits, enteredFits, wellFormed, deviceOf}
 use Rattle.layout.specs.Carried.{carriable, carried}
-use Rattle.face.specs.Face.{partNamed, stands, standsSound, answered, packed, faceRead, faceWrite, faceCut, freshRefusal, freshImage, carriedRefusal, carriedImage, placeNumber, faceClock, faceCharge, faceFirstWord, faceBlockWords}
-use Rattle.face.specs.Worked.{cells, idle, unlocked, idleBefore, Judged, judgements, noNumber}
+use Rattle.face.specs.Face.{partNamed, stands, standsSound, packed, faceRead, faceWrite, faceWait, faceCut, freshRefusal, freshImage, carriedRefusal, carriedImage, placeNumber, spotNumber, spotArray, faceClock, faceCharge, faceFirstWord, faceBlockWords}
+use Rattle.face.specs.Range.{faceRange, faceRangeWords}
+use Rattle.face.specs.Worked.{idle, sealed, entered, idleBefore₁, idleBefore₂, Judged, judgements, Row, rows, refusedReads, ranges, rangeNumbers, wordsHanded, handed, noNumber}
 
 pub parts : map partNamed (0 ∷ 1 ∷ []) ≡ Small ∷ Full ∷ []
 parts = refl
 
 pub judges : map (λ (j : Judged). standsSound (j .part) (j .words)) judgements ≡ map (λ (j : Judged). j .sound) judgements
-unfolding standsSound stands wellFormed marked commandFits operationFits recoveryFits eraseFits programFits wordsFrom zeros
-    deviceOf commandOf cycleOf operationNumbered operationOf sound meterSound operationSound commandSound isStill stillCommand runningOf suspensionOf runningCurrent clockLimit blockCount has pack setOf some
+unfolding standsSound stands wellFormed marked commandFits operationFits recoveryFits enteredFits eraseFits programFits wordsFrom zeros
+    deviceOf commandOf cycleOf operationNumbered operationOutside insideNumbered operationOf sound meterSound operationSound enteredSound programSound liesIn barred wordLockedBy arrayWritten firstWord commandSound isGround isStill stillCommand cycleSound cycleUnsuspended readingSound runningOf runningInside suspensionOf runningCurrent programTime clockLimit blockCount has pack setOf some
 judges = refl
 
-pub reads-the-cell : faceRead 0 (idle 2 34000) cells 16383 ≡ answered 0 0x1234 (idle 2 34000) cells
-unfolding faceRead readEvent look polls readingOn rests stands wellFormed marked commandFits operationFits recoveryFits eraseFits programFits wordsFrom zeros
-    deviceOf commandOf cycleOf operationNumbered operationOf sound meterSound operationSound commandSound isStill stillCommand runningOf suspensionOf runningCurrent clockLimit blockCount has pack setOf some
-    number imageOf commandWords cycleWords operationParts unitOf climbed ladder entry
-reads-the-cell = refl
+pub answers : map (λ (r : Row). r .faced) rows ≡ map (λ (r : Row). r .stated) rows
+unfolding faceRead readEvent look polls readingOn readingWord givenAt givenWord rests faceWrite writeEvent written cycled unlessRuns continued atGround afterUnlocked afterLock68 isSuspended effected
+    faceWait waitEvent ticks tick current insideTick operationTick lentTick finished programmed faceCut cutEvent begunBlock begunInside begunProgram blockDebris programDebris debrisWords debrisNeeded debrisFor blockCut programCut cutOff cutShort cutLent
+    stands wellFormed marked commandFits operationFits recoveryFits enteredFits eraseFits programFits wordsFrom zeros
+    deviceOf commandOf cycleOf operationNumbered operationOutside insideNumbered operationOf sound meterSound operationSound enteredSound programSound liesIn barred wordLockedBy arrayWritten firstWord commandSound isGround isStill stillCommand cycleSound cycleUnsuspended readingSound runningOf runningInside suspensionOf runningCurrent programTime clockLimit blockCount has pack setOf some
+    number imageOf commandWords cycleWords readingWords operationParts enteredParts unitOf climbed ladder entry
+answers = refl
 
--- refused by STATE, CELLS, ADDRESS: above the word, which is 0
-pub reads-refused : map packed (faceRead 0 (idle 2 34001) cells 5 ∷ faceRead 2 (idle 0 0) cells 5 ∷ faceRead 1 (idle 0 0) cells 5 ∷ faceRead 0 (idle 0 0) cells 16384 ∷ [])
-    ≡ 0x10000 ∷ 0x10000 ∷ 0x20000 ∷ 0x30000 ∷ []
-unfolding faceRead readEvent stands wellFormed marked commandFits operationFits recoveryFits eraseFits programFits wordsFrom zeros
-    deviceOf commandOf cycleOf operationNumbered operationOf sound meterSound operationSound commandSound isStill stillCommand runningOf suspensionOf runningCurrent clockLimit blockCount has pack setOf some
-    number imageOf commandWords cycleWords operationParts unitOf climbed ladder entry
+-- the refusal above the word, which is 0
+pub reads-refused : map packed refusedReads ≡ 0x10000 ∷ 0x10000 ∷ 0x20000 ∷ 0x20000 ∷ 0x30000 ∷ []
+unfolding faceRead readEvent stands wellFormed marked commandFits operationFits recoveryFits enteredFits eraseFits programFits wordsFrom zeros
+    deviceOf commandOf cycleOf operationNumbered operationOutside insideNumbered operationOf sound meterSound operationSound enteredSound programSound liesIn barred wordLockedBy arrayWritten firstWord commandSound isGround isStill stillCommand cycleSound cycleUnsuspended readingSound runningOf runningInside suspensionOf runningCurrent programTime clockLimit blockCount has pack setOf some
+    number imageOf commandWords cycleWords readingWords operationParts enteredParts unitOf climbed ladder entry
 reads-refused = refl
 
-pub writes : faceWrite 0 (idle 0 0) cells 0x555 0xAA ≡ answered 0 0 (unlocked 0 0) cells
-unfolding faceWrite writeEvent written entered atGround effected stands wellFormed marked commandFits operationFits recoveryFits eraseFits programFits wordsFrom zeros
-    deviceOf commandOf cycleOf operationNumbered operationOf sound meterSound operationSound commandSound isStill stillCommand runningOf suspensionOf runningCurrent clockLimit blockCount has pack setOf some
-    number imageOf commandWords cycleWords operationParts unitOf climbed ladder entry
-writes = refl
+pub ranges-answered : ranges ≡ rangeNumbers
+unfolding faceRange rangeEvent stands wellFormed marked commandFits operationFits recoveryFits enteredFits eraseFits programFits wordsFrom zeros
+    deviceOf commandOf cycleOf operationNumbered operationOutside insideNumbered operationOf sound meterSound operationSound enteredSound programSound liesIn barred wordLockedBy arrayWritten firstWord commandSound isGround isStill stillCommand cycleSound cycleUnsuspended readingSound runningOf runningInside suspensionOf runningCurrent programTime clockLimit blockCount has pack setOf some
+    number imageOf commandWords cycleWords readingWords operationParts enteredParts unitOf climbed ladder entry
+ranges-answered = refl
 
-pub cuts : faceCut 0 (unlocked 2 34000) cells [] ≡ answered 0 0 (idle 2 34000) cells
-unfolding faceCut cutEvent begunBlock begunProgram blockDebris programDebris debrisNeeded blockCut programCut cutLent stands wellFormed marked commandFits operationFits recoveryFits eraseFits programFits wordsFrom zeros
-    deviceOf commandOf cycleOf operationNumbered operationOf sound meterSound operationSound commandSound isStill stillCommand runningOf suspensionOf runningCurrent clockLimit blockCount has pack setOf some cycleSound cycleInRange cycleInSuspension
-    number imageOf commandWords cycleWords operationParts unitOf climbed ladder entry
-cuts = refl
+pub ranges-handed : wordsHanded ≡ handed
+unfolding faceRangeWords rangeEvent rangeWords stands wellFormed marked commandFits operationFits recoveryFits enteredFits eraseFits programFits wordsFrom zeros
+    deviceOf commandOf cycleOf operationNumbered operationOutside insideNumbered operationOf sound meterSound operationSound enteredSound programSound liesIn barred wordLockedBy arrayWritten firstWord commandSound isGround isStill stillCommand cycleSound cycleUnsuspended readingSound runningOf runningInside suspensionOf runningCurrent programTime clockLimit blockCount has pack setOf some
+    number imageOf commandWords cycleWords readingWords operationParts enteredParts unitOf climbed ladder entry
+ranges-handed = refl
 
-pub nothing-stands : faceCut 0 (0 ∷ []) (7 ∷ []) [] ≡ answered 1 0 (0 ∷ []) (7 ∷ [])
-unfolding faceCut number stands wellFormed marked commandFits operationFits recoveryFits eraseFits programFits wordsFrom zeros
-nothing-stands = refl
-
-pub makes-fresh : map freshRefusal (replicate 30 9 ∷ replicate 31 9 ∷ []) ≡ 0 ∷ 1 ∷ []
+pub makes-fresh : map freshRefusal (replicate 32 9 ∷ replicate 30 9 ∷ []) ≡ 0 ∷ 1 ∷ []
 unfolding number
 makes-fresh = refl
 
-pub fresh-words : map freshImage (replicate 30 9 ∷ replicate 31 9 ∷ []) ≡ idle 0 0 ∷ replicate 31 9 ∷ []
+pub fresh-words : map freshImage (replicate 32 9 ∷ replicate 30 9 ∷ []) ≡ idle 0 0 ∷ replicate 30 9 ∷ []
 unfolding imageOf commandWords operationParts setOf pack
 fresh-words = refl
 
--- a record of layout 1, one of this layout, one of none, and too little room
-pub carries : map (λ (i : List ℕ). carriedRefusal i (replicate 30 9)) (idleBefore 2 34000 ∷ idle 2 34000 ∷ replicate 30 9 ∷ []) ≡ 0 ∷ 0 ∷ 1 ∷ []
+-- a record of layout 1, of layout 2, two of this layout, one of none, and too little room
+pub carries : map (λ (i : List ℕ). carriedRefusal i (replicate 32 9)) (idleBefore₁ 2 34000 ∷ idleBefore₂ 2 34000 ∷ idle 2 34000 ∷ sealed (entered (idle 0 0)) ∷ replicate 32 9 ∷ []) ≡ 0 ∷ 0 ∷ 0 ∷ 0 ∷ 1 ∷ []
 unfolding number carriable
 carries = refl
 
-pub carried-words : map (λ (i : List ℕ). carriedImage i (replicate 30 9)) (idleBefore 2 34000 ∷ idle 2 34000 ∷ replicate 30 9 ∷ []) ≡ idle 2 34000 ∷ idle 2 34000 ∷ replicate 30 9 ∷ []
+pub carried-words : map (λ (i : List ℕ). carriedImage i (replicate 32 9)) (idleBefore₁ 2 34000 ∷ idleBefore₂ 2 34000 ∷ idle 2 34000 ∷ sealed (entered (idle 0 0)) ∷ replicate 32 9 ∷ [])
+    ≡ idle 2 34000 ∷ idle 2 34000 ∷ idle 2 34000 ∷ sealed (entered (idle 0 0)) ∷ replicate 32 9 ∷ []
 unfolding carriable carried wordsFrom
 carried-words = refl
 
-pub no-room : carriedRefusal (idleBefore 2 34000) (replicate 29 9) ≡ 1
+pub no-room : carriedRefusal (idleBefore₁ 2 34000) (replicate 30 9) ≡ 1
 unfolding number carriable
 no-room = refl
 
@@ -86,14 +90,22 @@ pub places : map placeNumber (At 0 ∷ At 269 ∷ Nowhere ∷ []) ≡ 0 ∷ 269 
 unfolding placeNumber
 places = refl
 
+pub spots : map spotNumber (In Main 0 ∷ In OneTime 255 ∷ NoWord ∷ []) ≡ 0 ∷ 255 ∷ noNumber ∷ []
+unfolding spotNumber
+spots = refl
+
+pub spot-arrays : map spotArray (In Main 0 ∷ In OneTime 255 ∷ NoWord ∷ []) ≡ 0 ∷ 1 ∷ noNumber ∷ []
+unfolding spotArray
+spot-arrays = refl
+
 pub clocks : map (faceClock 1) (idle 2 34000 ∷ idle 2 34001 ∷ []) ≡ 2 ∷ noNumber ∷ []
-unfolding faceClock standsSound stands wellFormed marked commandFits operationFits recoveryFits eraseFits programFits wordsFrom zeros
-    deviceOf commandOf cycleOf operationNumbered operationOf sound meterSound operationSound commandSound isStill stillCommand runningOf suspensionOf runningCurrent clockLimit blockCount has pack setOf some
+unfolding faceClock standsSound stands wellFormed marked commandFits operationFits recoveryFits enteredFits eraseFits programFits wordsFrom zeros
+    deviceOf commandOf cycleOf operationNumbered operationOutside insideNumbered operationOf sound meterSound operationSound enteredSound programSound liesIn barred wordLockedBy arrayWritten firstWord commandSound isGround isStill stillCommand cycleSound cycleUnsuspended readingSound runningOf runningInside suspensionOf runningCurrent programTime clockLimit blockCount has pack setOf some
 clocks = refl
 
 pub charges : map (faceCharge 1) (idle 2 34000 ∷ idle 2 34001 ∷ []) ≡ 34000 ∷ noNumber ∷ []
-unfolding faceCharge standsSound stands wellFormed marked commandFits operationFits recoveryFits eraseFits programFits wordsFrom zeros
-    deviceOf commandOf cycleOf operationNumbered operationOf sound meterSound operationSound commandSound isStill stillCommand runningOf suspensionOf runningCurrent clockLimit blockCount has pack setOf some
+unfolding faceCharge standsSound stands wellFormed marked commandFits operationFits recoveryFits enteredFits eraseFits programFits wordsFrom zeros
+    deviceOf commandOf cycleOf operationNumbered operationOutside insideNumbered operationOf sound meterSound operationSound enteredSound programSound liesIn barred wordLockedBy arrayWritten firstWord commandSound isGround isStill stillCommand cycleSound cycleUnsuspended readingSound runningOf runningInside suspensionOf runningCurrent programTime clockLimit blockCount has pack setOf some
 charges = refl
 
 -- the last block of each part, the number after it, and no part

@@ -11,5 +11,5 @@ use Rattle.layout.specs.Image.{deviceOf}
 use Rattle.face.specs.Face.{partNamed, stands}
 
 -- STATE, then CELLS
-unfoldable pub faceEntry : (part : ℕ) → List ℕ → List ℕ → Entry
-faceEntry part i cells = if stands part i then entry (partNamed part) (deviceOf i) (lent cells) else Barred State
+unfoldable pub faceEntry : (part : ℕ) → (image cells otp : List ℕ) → Entry
+faceEntry part i cells otp = if stands part i then entry (partNamed part) (deviceOf i) (lent cells otp) else Barred State

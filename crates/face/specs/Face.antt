@@ -1,4 +1,5 @@
--- What a C program is answered, over a record that it holds as words and cells that it lends (include/k5l2931cam.h).
+-- What a C program is answered, over a record that it holds as words, and cells and one-time words that it lends
+-- (include/k5l2931cam.h).
 use Prim.Native.Nat.{ℕ, _+_, _*_}
 use mathlib.Core.Bool.{Bool, _&&_}
 use mathlib.Core.List.{List}
@@ -7,8 +8,12 @@ use lib.ListN.{length}
 use Rattle.geometry.specs.declared.Part.{Part}
 use Rattle.geometry.specs.declared.Part.the-variants.{Small, Full}
 use Rattle.geometry.specs.Parts.{firstOf, sizeOf}
+use Rattle.plain.specs.declared.Array.{Array}
+use Rattle.plain.specs.declared.Array.the-variants.{Main, OneTime}
 use Rattle.plain.specs.declared.Place.{Place}
 use Rattle.plain.specs.declared.Place.the-variants.{Nowhere, At}
+use Rattle.plain.specs.declared.Spot.{Spot}
+use Rattle.plain.specs.declared.Spot.the-variants.{NoWord, In}
 use Rattle.plain.specs.declared.Refusal.the-variants.{Done, State}
 use Rattle.plain.specs.declared.Device.{Device}
 use Rattle.plain.specs.Choice.{if_then_else_}
@@ -45,33 +50,34 @@ pub record Faced : Type 0 where
   pub word : ℕ
   pub image : List ℕ
   pub cells : List ℕ
+  pub otp : List ℕ
 
-abbrev pub answered : (refusal word : ℕ) → (image cells : List ℕ) → Faced
-answered n w i cells = record { refusal = n; word = w; image = i; cells = cells }
+abbrev pub answered : (refusal word : ℕ) → (image cells otp : List ℕ) → Faced
+answered n w i cells otp = record { refusal = n; word = w; image = i; cells = cells; otp = otp }
 
 -- the plain machine's outcome, with the record as words again
 abbrev pub shown : Outcome → Faced
-shown o = answered (number (o .answer .refusal)) (o .answer .word) (imageOf (o .answer .device)) (o .lent .cells)
+shown o = answered (number (o .answer .refusal)) (o .answer .word) (imageOf (o .answer .device)) (o .lent .cells) (o .lent .otp)
 
 -- "an image that stands for no sound record is STATE and is left as it was, bit for bit"
-abbrev pub state : List ℕ → List ℕ → Faced
-state i cells = answered (number State) 0 i cells
+abbrev pub state : (image cells otp : List ℕ) → Faced
+state i cells otp = answered (number State) 0 i cells otp
 
-abbrev pub faced : (Part → Device → Lent → Outcome) → (part : ℕ) → List ℕ → List ℕ → Faced
-faced event part i cells =
-    if stands part i then shown (event (partNamed part) (deviceOf i) (lent cells)) else state i cells
+abbrev pub faced : (Part → Device → Lent → Outcome) → (part : ℕ) → (image cells otp : List ℕ) → Faced
+faced event part i cells otp =
+    if stands part i then shown (event (partNamed part) (deviceOf i) (lent cells otp)) else state i cells otp
 
-unfoldable pub faceRead : (part : ℕ) → List ℕ → List ℕ → (address : ℕ) → Faced
-faceRead part i cells a = faced (λ p r l. readEvent p r l a) part i cells
+unfoldable pub faceRead : (part : ℕ) → (image cells otp : List ℕ) → (address : ℕ) → Faced
+faceRead part i cells otp a = faced (λ p r l. readEvent p r l a) part i cells otp
 
-unfoldable pub faceWrite : (part : ℕ) → List ℕ → List ℕ → (address word : ℕ) → Faced
-faceWrite part i cells a w = faced (λ p r l. writeEvent p r l a w) part i cells
+unfoldable pub faceWrite : (part : ℕ) → (image cells otp : List ℕ) → (address word : ℕ) → Faced
+faceWrite part i cells otp a w = faced (λ p r l. writeEvent p r l a w) part i cells otp
 
-unfoldable pub faceWait : (part : ℕ) → List ℕ → List ℕ → (microseconds : ℕ) → Faced
-faceWait part i cells n = faced (λ p r l. waitEvent p r l n) part i cells
+unfoldable pub faceWait : (part : ℕ) → (image cells otp : List ℕ) → (microseconds : ℕ) → Faced
+faceWait part i cells otp n = faced (λ p r l. waitEvent p r l n) part i cells otp
 
-unfoldable pub faceCut : (part : ℕ) → List ℕ → List ℕ → (debris : List ℕ) → Faced
-faceCut part i cells debris = faced (λ p r l. cutEvent p r l debris) part i cells
+unfoldable pub faceCut : (part : ℕ) → (image cells otp : List ℕ) → (debris : List ℕ) → Faced
+faceCut part i cells otp debris = faced (λ p r l. cutEvent p r l debris) part i cells otp
 
 -- a read's answer: "the word in the low 16 bits, the refusal above them"
 abbrev pub packed : Faced → ℕ
@@ -100,13 +106,27 @@ carriedImage stored i = if mayCarry stored i then carried stored else i
 
 -- ---- what is asked besides
 
--- "No block, no word, no clock, no charge."
+-- "No block, no word, no array, no clock, no charge."
 abbrev pub none : ℕ
 none = 18446744073709551615
 
 unfoldable pub placeNumber : Place → ℕ
 placeNumber Nowhere = none
 placeNumber (At n) = n
+
+-- the arrays: 0 is the cells, 1 the one-time words
+abbrev pub arrayNumber : Array → ℕ
+arrayNumber Main = 0
+arrayNumber OneTime = 1
+
+-- of a word, its address and its array
+unfoldable pub spotNumber : Spot → ℕ
+spotNumber NoWord = none
+spotNumber (In y a) = a
+
+unfoldable pub spotArray : Spot → ℕ
+spotArray NoWord = none
+spotArray (In y a) = arrayNumber y
 
 unfoldable pub faceClock : (part : ℕ) → List ℕ → ℕ
 faceClock part i = if standsSound part i then deviceOf i .meter .clock else none

@@ -1,3 +1,4 @@
 pub mod Face
 pub mod Entry
+pub mod Range
 pub mod Worked

@@ -1,18 +1,18 @@
 -- What is promised of the times left, over the plain machine's microseconds: just then, and not before.
 use Prim.Native.Nat.{ℕ, _<_}
 use mathlib.Core.Path.{_≡_}
-use mathlib.Core.Bool.{Bool, true, false}
+use mathlib.Core.Bool.{Bool, true, false, _&&_}
 use lib.Dec.{eqb, leb}
-use lib.ListN.{length}
 use Rattle.geometry.specs.declared.Part.{Part}
-use Rattle.geometry.specs.Parts.{blockOf, wordCount}
 use Rattle.protection.specs.declared.Protection.{Protection}
+use Rattle.plain.specs.declared.Array.{Array}
 use Rattle.plain.specs.declared.Command.{Command}
 use Rattle.plain.specs.declared.Running.{Running}
 use Rattle.plain.specs.declared.Running.the-variants.{Still, Programs, Waits, Erases, Recovers, ErasesChip}
-use Rattle.plain.specs.Lent.{Lent, cellAt}
-use Rattle.plain.specs.Operations.{runningOf, suspensionOf}
-use Rattle.plain.specs.Programs.{finished}
+use Rattle.plain.specs.Holds.{inBlock}
+use Rattle.plain.specs.Lent.{Lent, wordsOf, wordAt, Whole}
+use Rattle.plain.specs.Operations.{runningOf, suspensionOf, isEntered}
+use Rattle.plain.specs.Programs.{same, finished}
 use Rattle.plain.specs.Record.{programLeft, eraseLeft, recovery}
 use Rattle.plain.specs.Sound.{isStill}
 use Rattle.plain.specs.Status.{look}
@@ -44,13 +44,13 @@ comesAt (RecoveryEnds n) k = eqb n k
 comesAt (WordDone f) k = eqb (f .after) k
 comesAt (BlockDone f) k = eqb (f .after) k
 
--- the word at x may change with it
-unfoldable pub changesAt : Part → Change → (x : ℕ) → Bool
-changesAt p Never x = false
-changesAt p (WindowEnds n) x = false
-changesAt p (RecoveryEnds n) x = false
-changesAt p (WordDone f) x = eqb x (f .at)
-changesAt p (BlockDone f) x = eqb (blockOf p x) (f .at)
+-- the word at x of an array may change with it
+unfoldable pub changesAt : Part → Change → Array → (x : ℕ) → Bool
+changesAt p Never y x = false
+changesAt p (WindowEnds n) y x = false
+changesAt p (RecoveryEnds n) y x = false
+changesAt p (WordDone f) y x = same y (f .array) && eqb x (f .at)
+changesAt p (BlockDone f) y x = inBlock p (f .at) y x
 
 -- what runs, but for its time left
 unfoldable pub timeless : Running → Running
@@ -61,7 +61,7 @@ timeless (Erases e) = Erases (eraseLeft e 0)
 timeless (Recovers r) = Recovers (recovery (r .erase) 0)
 timeless (ErasesChip e) = ErasesChip (eraseLeft e 0)
 
--- no cell has changed, the same runs and rests, and every read gives what it gave
+-- no word of either array has changed, the same runs and rests, and every read gives what it gave
 pub record Unchanged (p : Part) (before after : Moment) : Type 0 where
   pub lent : after .lent ≡ before .lent
   pub runs : timeless (runningOf (after .operation)) ≡ timeless (runningOf (before .operation))
@@ -80,13 +80,16 @@ completed p (Erases e) l = eraseFinished p e l
 completed p (Recovers r) l = l
 completed p (ErasesChip e) l = eraseFinished p e l
 
--- something else runs, or nothing; what was in hand is finished, and no word has changed but where it was told
+-- something else runs, or nothing; the one-time block is entered if it was; what was in hand is finished, and no word of either array has
+-- changed but where it was told
 pub record Changed (p : Part) (before after : Moment) : Type 0 where
   pub lent : after .lent ≡ completed p (runningOf (before .operation)) (before .lent)
   pub runs : timeless (runningOf (after .operation)) ≡ timeless (runningOf (before .operation)) → ⊥
-  pub elsewhere : (x : ℕ) → x < wordCount p → changesAt p (changeOf (runningOf (before .operation))) x ≡ false → cellAt (after .lent) x ≡ cellAt (before .lent) x
+  pub mode : isEntered (suspensionOf (after .operation)) ≡ isEntered (suspensionOf (before .operation))
+  pub elsewhere : (y : Array) (x : ℕ) → x < wordsOf p y → changesAt p (changeOf (runningOf (before .operation))) y x ≡ false
+      → wordAt (after .lent) y x ≡ wordAt (before .lent) y x
 
 abbrev pub ChangedThen : Part → Type 0
 ChangedThen p =
-    (m : Moment) → Fits p (m .operation) → length (m .lent .cells) ≡ wordCount p → (k : ℕ)
+    (m : Moment) → Fits p (m .operation) → Whole p (m .lent) → (k : ℕ)
     → comesAt (changeOf (runningOf (m .operation))) k ≡ true → Changed p m (ticks p k m)

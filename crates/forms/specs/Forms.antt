@@ -9,6 +9,7 @@ use Rattle.language.specs.declared.Value.{Value}
 use Rattle.spelling.specs.declared.Item.{Item}
 use Rattle.spelling.specs.declared.Words.{Words}
 use Rattle.forms.specs.declared.Verb.{Verb}
+use Rattle.forms.specs.declared.Target.{Target}
 use Rattle.forms.specs.declared.Form.{Form}
 use Rattle.forms.specs.declared.Count.{Count}
 use Rattle.spelling.specs.Items.{numberOf, wordsOf}
@@ -31,7 +32,9 @@ namedBy letters remark =
     else if eqb letters 0x17772697465 then Form.Named Verb.Write
     else if eqb letters 0x177616974 then Form.Named Verb.Wait
     else if eqb letters 0x1637574 then Form.Cuts 0
+    else if eqb letters 0x172616e6765 then Form.Named Verb.Range
     else if eqb letters 0x163656c6c then Form.Named Verb.Cell
+    else if eqb letters 0x16f7470 then Form.Named Verb.Otp
     else if eqb letters 0x16672657368 then Form.Freshens
     else Form.Wrong
 
@@ -39,7 +42,9 @@ unfoldable pub verbWith : Verb → (number : ℕ) → Form
 verbWith Verb.Read n = Form.Reads n
 verbWith Verb.Write n = Form.Addresses n
 verbWith Verb.Wait n = Form.Waits n
-verbWith Verb.Cell n = Form.Sets n 0
+verbWith Verb.Range n = Form.Starts n
+verbWith Verb.Cell n = Form.Sets Target.Cells n 0
+verbWith Verb.Otp n = Form.Sets Target.OneTime n 0
 
 unfoldable pub numberedBy : Verb → Value → Form
 numberedBy verb Value.Absent = Form.Wrong
@@ -49,6 +54,10 @@ numberedBy verb (Value.Of n) = verbWith verb n
 unfoldable pub writtenBy : (address : ℕ) → Value → Form
 writtenBy address Value.Absent = Form.Wrong
 writtenBy address (Value.Of w) = if ltb 0xffff w then Form.Wrong else Form.Writes address w
+
+unfoldable pub rangedBy : (first : ℕ) → Value → Form
+rangedBy first Value.Absent = Form.Wrong
+rangedBy first (Value.Of n) = Form.Ranges first n
 
 unfoldable pub countedTo : (room count : ℕ) → Words → Count
 countedTo room count Words.Wrong = Count.Wrong
@@ -62,9 +71,9 @@ unfoldable pub cutsBy : Count → Form
 cutsBy Count.Wrong = Form.Wrong
 cutsBy (Count.Of n) = Form.Cuts n
 
-unfoldable pub setsBy : (address : ℕ) → Count → Form
-setsBy address Count.Wrong = Form.Wrong
-setsBy address (Count.Of n) = Form.Sets address n
+unfoldable pub setsBy : Target → (address : ℕ) → Count → Form
+setsBy target address Count.Wrong = Form.Wrong
+setsBy target address (Count.Of n) = Form.Sets target address n
 
 -- the line with one item more
 unfoldable pub takenBy : Form → Item → (room : ℕ) → Form
@@ -76,7 +85,9 @@ takenBy (Form.Addresses address) i room = writtenBy address (numberOf i)
 takenBy (Form.Writes address word) i room = Form.Wrong
 takenBy (Form.Waits microseconds) i room = Form.Wrong
 takenBy (Form.Cuts count) i room = cutsBy (countedTo room count (wordsOf i))
-takenBy (Form.Sets address count) i room = setsBy address (countedTo room count (wordsOf i))
+takenBy (Form.Starts first) i room = rangedBy first (numberOf i)
+takenBy (Form.Ranges first count) i room = Form.Wrong
+takenBy (Form.Sets target address count) i room = setsBy target address (countedTo room count (wordsOf i))
 takenBy Form.Freshens i room = Form.Wrong
 takenBy Form.Wrong i room = Form.Wrong
 
@@ -90,7 +101,9 @@ keptBy (Form.Addresses address) i words = words
 keptBy (Form.Writes address word) i words = words
 keptBy (Form.Waits microseconds) i words = words
 keptBy (Form.Cuts count) i words = storedTo words count (wordsOf i)
-keptBy (Form.Sets address count) i words = storedTo words count (wordsOf i)
+keptBy (Form.Starts first) i words = words
+keptBy (Form.Ranges first count) i words = words
+keptBy (Form.Sets target address count) i words = storedTo words count (wordsOf i)
 keptBy Form.Freshens i words = words
 keptBy Form.Wrong i words = words
 

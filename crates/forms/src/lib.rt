@@ -2,7 +2,7 @@
 ghost use mathlib.Core.Path.{_≡_};
 ghost use lib.ListN.{length};
 ghost use Rattle.spelling.specs.Items.{wordsOf};
-ghost use Rattle.forms.specs.Forms.{takenForm, takenWords, namedBy, numberedBy, writtenBy, countedTo, storedTo, cutsBy, setsBy};
+ghost use Rattle.forms.specs.Forms.{takenForm, takenWords, namedBy, numberedBy, writtenBy, rangedBy, countedTo, storedTo, cutsBy, setsBy};
 
 mod words;
 
@@ -15,7 +15,15 @@ pub enum Verb {
     Read,
     Write,
     Wait,
+    Range,
     Cell,
+    Otp,
+}
+
+// The words that a line sets.
+pub enum Target {
+    Cells,
+    OneTime,
 }
 
 pub enum Form {
@@ -35,8 +43,12 @@ pub enum Form {
     Waits(u64),
     // `cut` and so many words
     Cuts(usize),
-    // `cell A` and so many words
-    Sets(u64, usize),
+    // `range A`, whose number of words is to come
+    Starts(u64),
+    // `range A N`
+    Ranges(u64, u64),
+    // `cell A` or `otp A` and so many words
+    Sets(Target, u64, usize),
     // `fresh`
     Freshens,
     // None of these, whatever follows.
@@ -66,7 +78,9 @@ pub fn taken(form: Form, item: Item, words: &mut [u16]) -> Form
         Form::Writes(_, _) => Form::Wrong,
         Form::Waits(_) => Form::Wrong,
         Form::Cuts(count) => cuts(added(count, item, words)),
-        Form::Sets(address, count) => sets(address, added(count, item, words)),
+        Form::Starts(first) => ranged(first, spelling::number_of(item)),
+        Form::Ranges(_, _) => Form::Wrong,
+        Form::Sets(target, address, count) => sets(target, address, added(count, item, words)),
         Form::Freshens => Form::Wrong,
         Form::Wrong => Form::Wrong,
     }
@@ -84,7 +98,9 @@ fn named(letters: u64, remark: bool) -> Form
         0x17772697465 => Form::Named(Verb::Write),
         0x177616974 => Form::Named(Verb::Wait),
         0x1637574 => Form::Cuts(0),
+        0x172616e6765 => Form::Named(Verb::Range),
         0x163656c6c => Form::Named(Verb::Cell),
+        0x16f7470 => Form::Named(Verb::Otp),
         0x16672657368 => Form::Freshens,
         _ => Form::Wrong,
     }
@@ -99,7 +115,9 @@ fn numbered(verb: Verb, number: Value) -> Form
             Verb::Read => Form::Reads(value),
             Verb::Write => Form::Addresses(value),
             Verb::Wait => Form::Waits(value),
-            Verb::Cell => Form::Sets(value, 0),
+            Verb::Range => Form::Starts(value),
+            Verb::Cell => Form::Sets(Target::Cells, value, 0),
+            Verb::Otp => Form::Sets(Target::OneTime, value, 0),
         },
     }
 }
@@ -116,6 +134,15 @@ fn written(address: u64, number: Value) -> Form
             }
             Form::Writes(address, value as u16)
         }
+    }
+}
+
+fn ranged(first: u64, number: Value) -> Form
+    ensures { λ r. ⌜ r ≡ rangedBy first number ⌝ }
+{
+    match number {
+        Value::Absent => Form::Wrong,
+        Value::Of(value) => Form::Ranges(first, value),
     }
 }
 
@@ -138,11 +165,11 @@ fn cuts(count: Count) -> Form
     }
 }
 
-fn sets(address: u64, count: Count) -> Form
-    ensures { λ r. ⌜ r ≡ setsBy address count ⌝ }
+fn sets(target: Target, address: u64, count: Count) -> Form
+    ensures { λ r. ⌜ r ≡ setsBy target address count ⌝ }
 {
     match count {
         Count::Wrong => Form::Wrong,
-        Count::Of(n) => Form::Sets(address, n),
+        Count::Of(n) => Form::Sets(target, address, n),
     }
 }

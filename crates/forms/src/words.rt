@@ -1,4 +1,4 @@
-// The words of a `cut` or a `cell`, in the room that the caller lends.
+// The words of a `cut`, a `cell` or an `otp`, in the room that the caller lends.
 ghost use mathlib.Core.Path.{_≡_};
 ghost use lib.ListN.{length, replicate};
 ghost use Rattle.forms.specs.Forms.{putCount, putWords};

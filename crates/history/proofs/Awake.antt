@@ -11,8 +11,8 @@ use Rattle.plain.specs.Operations.{suspensionOf}
 use Rattle.plain.specs.Record.{fresh}
 use Rattle.plain.specs.SuspendedProgram.{NoEventSuspendsProgram, NoRunSuspendsProgram}
 use Rattle.plain.proofs.SuspendedProgram.{Awake, awake-lasts}
+use Rattle.history.proofs.Fine.{Fine, starts}
 use Rattle.history.proofs.KeptOperation.{step-keeps, run-keeps}
-use Rattle.history.proofs.KeptWrite.{Fine, starts}
 
 starts-awake : {p : Part} {l : Lent} {w : ℕ} {Reason : Type 0} (r : Device) (x : Operation) → Fine p (r .bits) l w Reason (r .operation) (Starts x) → Awake x
 starts-awake r x (starts _ _ awake _) = awake

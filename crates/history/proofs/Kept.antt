@@ -20,7 +20,7 @@ use Rattle.plain.proofs.Tools.{clash}
 use Rattle.plain.proofs.Facts.{fresh-sound}
 use Rattle.plain.proofs.Ends.{never-ends-protected}
 use Rattle.plain.proofs.EventLaws.{cut-debris, cut-passes}
-use Rattle.history.proofs.KeptWrite.{never}
+use Rattle.history.proofs.Fine.{never}
 use Rattle.history.proofs.KeptEvents.{step-kept}
 use Rattle.history.proofs.KeptOperation.{run-keeps}
 

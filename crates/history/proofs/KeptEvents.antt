@@ -10,7 +10,7 @@ use Rattle.protection.specs.declared.Protection.{Protection}
 use Rattle.protection.specs.Protection.{strayBits}
 use Rattle.protection.proofs.Stray.{stray-after-cut}
 use Rattle.plain.specs.declared.Refusal.{Refusal}
-use Rattle.plain.specs.declared.Refusal.the-variants.{Done, Cells, Address, Clock, Debris, Sequence, Raise}
+use Rattle.plain.specs.declared.Refusal.the-variants.{Done, Cells, Address, Clock, Debris, Busy, Sequence, Raise}
 use Rattle.plain.specs.declared.Operation.{Operation}
 use Rattle.plain.specs.declared.Operation.the-variants.{Idle}
 use Rattle.plain.specs.declared.Command.{Command}
@@ -18,7 +18,7 @@ use Rattle.plain.specs.declared.Command.the-variants.{Ground}
 use Rattle.plain.specs.declared.Effect.{Effect}
 use Rattle.plain.specs.declared.Effect.the-variants.{Goes, Starts, Protects, Falls, Stays, Drops}
 use Rattle.plain.specs.declared.Device.{Device}
-use Rattle.plain.specs.Events.{Event, read, write, wait, cut}
+use Rattle.plain.specs.Events.{Event, read, write, wait, cut, range}
 use Rattle.plain.specs.Figures.{clockLimit}
 use Rattle.plain.specs.Lent.{Lent}
 use Rattle.plain.specs.Record.{device, answer}
@@ -26,14 +26,15 @@ use Rattle.plain.specs.Refusals.{number}
 use Rattle.plain.specs.Sound.{meterSound, operationSound, commandSound, sound}
 use Rattle.plain.specs.Commands.{effected}
 use Rattle.plain.specs.Time.{Moment, ticks}
-use Rattle.plain.specs.Machine.{Outcome, outcome, refused, ladder, now, waited, readEvent, writeEvent, waitEvent, cutEvent, step, Fit}
-use Rattle.plain.proofs.Tools.{clash, neither-left}
+use Rattle.plain.specs.Machine.{Outcome, outcome, refused, ladder, now, waited, handsBack, readEvent, writeEvent, waitEvent, cutEvent, rangeEvent, step, Fit}
+use Rattle.plain.proofs.Tools.{by-test, clash, neither-left}
 use Rattle.plain.proofs.Facts.{sound-clock, sound-charge, sound-bits, sound-operation, sound-command}
 use Rattle.plain.proofs.FactsHold.{meter-holds, sound-holds, idle-holds}
 use Rattle.plain.proofs.Ladder.{by-ladder}
 use Rattle.plain.proofs.Register.{ground-sound}
 use Rattle.plain.proofs.SoundTime.{ticks-going, ticks-clock}
-use Rattle.history.proofs.KeptWrite.{never, Fine, goes, starts, protects, falls, raised, stays, drops, write-fine}
+use Rattle.history.proofs.Fine.{never, Fine, goes, starts, protects, falls, raised, stays, drops}
+use Rattle.history.proofs.KeptWrite.{write-fine}
 use Rattle.history.proofs.KeptRead.{look-alike}
 
 pub record Kept (p : Part) (o : Outcome) : Type 0 where
@@ -76,7 +77,7 @@ module _ (p : Part) (r : Device) (s : sound p r ≡ true) (l : Lent) where
   unfolding effected number
   effect-kept (Goes c) (goes h) = changed Done 0 c (r .operation) (r .bits) l refl (sound-bits p r s) operation-sound h
   effect-kept (Starts o) (starts h _ _ _) = changed Done 0 Ground o (r .bits) l refl (sound-bits p r s) h (ground-sound p o)
-  effect-kept (Protects new) (protects g h) = changed Done 0 Ground (r .operation) new l refl g h (ground-sound p (r .operation))
+  effect-kept (Protects new) (protects g h _) = changed Done 0 Ground (r .operation) new l refl g h (ground-sound p (r .operation))
   effect-kept (Falls n) (falls h) = fell n (neither-left (never n) _ h)
   effect-kept (Falls n) (raised _) = fell Raise refl
   effect-kept (Stays n) (stays h) = unchanged n (neither-left (never n) _ h)
@@ -109,9 +110,15 @@ module _ (p : Part) (r : Device) (s : sound p r ≡ true) (l : Lent) where
       kept _ Debris _ refl
       (λ _ _. changed Done 0 Ground Idle _ _ refl (stray-after-cut p (r .bits) (sound-bits p r s)) (idle-holds p _) (ground-sound p Idle))
 
+  range-kept : (first count : ℕ) → Kept p (rangeEvent p r l first count)
+  unfolding rangeEvent number
+  range-kept first count =
+      kept _ Address _ refl (λ _ _. by-test (Kept p) (handsBack (r .operation)) (λ _. unchanged Done refl) (λ _. unchanged Busy refl))
+
   pub step-kept : (e : Event) → Kept p (step p r l e)
   unfolding step
   step-kept (read a) = read-kept a
   step-kept (write a w) = write-kept a w
   step-kept (wait n) = wait-kept n
   step-kept (cut debris) = cut-kept debris
+  step-kept (range first count) = range-kept first count

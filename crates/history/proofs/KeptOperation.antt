@@ -11,13 +11,15 @@ use Rattle.plain.specs.declared.Effect.{Effect}
 use Rattle.plain.specs.declared.Effect.the-variants.{Goes, Starts, Protects, Falls, Stays, Drops}
 use Rattle.plain.specs.declared.Device.{Device}
 use Rattle.plain.specs.Commands.{effected}
-use Rattle.plain.specs.Events.{Event, read, write, wait, cut}
+use Rattle.plain.specs.Events.{Event, read, write, wait, cut, range}
 use Rattle.plain.specs.Lent.{Lent}
-use Rattle.plain.specs.Machine.{Outcome, ladder, now, Fit, readEvent, writeEvent, waitEvent, cutEvent, step, run}
+use Rattle.plain.specs.Machine.{Outcome, ladder, now, handsBack, Fit, readEvent, writeEvent, waitEvent, cutEvent, rangeEvent, step, run}
 use Rattle.plain.proofs.Ladder.{by-ladder}
 use Rattle.plain.proofs.Lasting.{Lasting, ticks-last}
+use Rattle.plain.proofs.Tools.{by-test}
 use Rattle.history.proofs.KeptRead.{Alike, look-alike}
-use Rattle.history.proofs.KeptWrite.{Fine, write-fine}
+use Rattle.history.proofs.Fine.{Fine}
+use Rattle.history.proofs.KeptWrite.{write-fine}
 
 module _ (p : Part) (r : Device) (l : Lent) (P : Operation → Type 0) (lasts : Lasting P) where
   abbrev Keeps : Outcome → Type 0
@@ -41,12 +43,13 @@ module _ (p : Part) (r : Device) (l : Lent) (P : Operation → Type 0) (lasts : 
     effect-keeps Drops s f = lasts .idle
 
     pub step-keeps : (e : Event) → ((o : Operation) → Alike p (r .bits) (r .operation) o → P o) → ((a w : ℕ) → e ≡ write a w → Starting w) → Keeps (step p r l e)
-    unfolding step readEvent writeEvent waitEvent cutEvent
+    unfolding step readEvent writeEvent waitEvent cutEvent rangeEvent
     step-keeps (read a) f s = climbs _ Address _ (λ _ _. f _ (look-alike p (r .bits) (r .command) (r .operation) l a))
     step-keeps (write a w) f s =
         climbs _ Address _ (λ fit t. effect-keeps _ (s a w refl) (write-fine p r l a w _ (fit .sound) t (λ _. tt)))
     step-keeps (wait n) f s = climbs _ Clock _ (λ _ _. ticks-last p P lasts n (now r l) h)
     step-keeps (cut debris) f s = climbs _ Debris _ (λ _ _. lasts .idle)
+    step-keeps (range first count) f s = climbs _ Address _ (λ _ _. by-test Keeps (handsBack (r .operation)) (λ _. h) (λ _. h))
 
 -- ---- a run
 

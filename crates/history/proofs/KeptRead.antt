@@ -1,4 +1,5 @@
--- What a read flips, soundness does not look at; it leaves what a program writes, and suspends none.
+-- What a read flips, soundness does not look at; it leaves what a program writes, suspends none, and neither enters nor leaves the
+-- one-time block.
 use Prim.Native.Nat.{ℕ}
 use mathlib.Core.Path.{_≡_, refl}
 use Rattle.geometry.specs.declared.Part.{Part}
@@ -7,16 +8,18 @@ use Rattle.plain.specs.declared.Erase.{Erase}
 use Rattle.plain.specs.declared.Inside.{Inside}
 use Rattle.plain.specs.declared.Inside.the-variants.{Nothing, Runs}
 use Rattle.plain.specs.declared.Operation.{Operation}
-use Rattle.plain.specs.declared.Operation.the-variants.{Idle, Programming, ProgramSuspended, Window, Erasing, Recovering, EraseSuspended, ChipErasing}
+use Rattle.plain.specs.declared.Operation.the-variants.{Idle, Programming, ProgramSuspended, Window, Erasing, Recovering, EraseSuspended, ChipErasing, InOneTime}
 use Rattle.plain.specs.declared.Suspension.the-variants.{OfErase}
 use Rattle.plain.specs.declared.Command.{Command}
 use Rattle.plain.specs.declared.Command.the-variants.{Ground, Entering, Reads}
+use Rattle.plain.specs.declared.Reading.{Reading}
+use Rattle.plain.specs.declared.Reading.the-variants.{Identity, Dybs, OtpLock}
 use Rattle.plain.specs.declared.Seen.{Seen}
 use Rattle.plain.specs.Lent.{Lent}
-use Rattle.plain.specs.Operations.{runningInside, runningOf, suspensionOf}
+use Rattle.plain.specs.Operations.{runningInside, runningOf, suspensionOf, isEntered}
 use Rattle.plain.specs.Record.{suspended}
 use Rattle.plain.specs.Commands.{programIsSuspended}
-use Rattle.plain.specs.Sound.{programSound, listSound, chipListSound, lowest, insideSound, operationSound, isStill, stillCommand, cycleSound, commandSound}
+use Rattle.plain.specs.Sound.{programSound, listSound, chipListSound, lowest, insideSound, enteredSound, operationSound, isStill, stillCommand, cycleSound, readingSound, commandSound}
 use Rattle.plain.specs.Status.{polls, polled, insidePolled, readingOn, rests, rested, look}
 use Rattle.plain.specs.SuspendedProgram.{programRests}
 use Rattle.plain.proofs.Data.{insideData, dataOf, recoveryLeft, Short}
@@ -29,42 +32,55 @@ module _ (p : Part) (bits : Protection) where
     pub command : (c : Command) → commandSound p x c ≡ commandSound p o c
     pub short : Short o → Short x
     pub resting : programRests x ≡ programRests o
+    pub entered : isEntered (suspensionOf x) ≡ isEntered (suspensionOf o)
     pub modest : (l : Lent) → raisesIn l x ≡ raisesIn l o
 
   alike : {o x : Operation} → operationSound p bits x ≡ operationSound p bits o → ((c : Command) → commandSound p x c ≡ commandSound p o c) → (Short o → Short x) → programRests x ≡ programRests o
-      → ((l : Lent) → raisesIn l x ≡ raisesIn l o) → Alike o x
-  alike f g d h m = record { operation = f; command = g; short = d; resting = h; modest = m }
+      → isEntered (suspensionOf x) ≡ isEntered (suspensionOf o) → ((l : Lent) → raisesIn l x ≡ raisesIn l o) → Alike o x
+  alike f g d h i m = record { operation = f; command = g; short = d; resting = h; entered = i; modest = m }
 
   itself : (o : Operation) → Alike o o
-  itself o = alike refl (λ c. refl) (λ h. h) refl (λ l. refl)
+  itself o = alike refl (λ c. refl) (λ h. h) refl refl (λ l. refl)
 
   inside-polled : (e : Erase) (i : Inside) → Alike (EraseSuspended (suspended e i)) (EraseSuspended (suspended e (insidePolled i)))
   unfolding insidePolled operationSound insideSound programSound commandSound isStill runningOf runningInside suspensionOf dataOf recoveryLeft insideData raisesIn raisesInside
-  inside-polled e Nothing = alike refl (λ c. refl) (λ h. h) refl (λ l. refl)
-  inside-polled e (Runs q) = alike refl (λ c. refl) (λ h. h) refl (λ l. refl)
+  inside-polled e Nothing = alike refl (λ c. refl) (λ h. h) refl refl (λ l. refl)
+  inside-polled e (Runs q) = alike refl (λ c. refl) (λ h. h) refl refl (λ l. refl)
+
+  entered-polled : (i : Inside) → Alike (InOneTime i) (InOneTime (insidePolled i))
+  unfolding insidePolled operationSound enteredSound programSound commandSound isStill runningOf runningInside suspensionOf dataOf recoveryLeft insideData raisesIn raisesInside
+  entered-polled Nothing = alike refl (λ c. refl) (λ h. h) refl refl (λ l. refl)
+  entered-polled (Runs q) = alike refl (λ c. refl) (λ h. h) refl refl (λ l. refl)
 
   polled-alike : (o : Operation) (a : ℕ) → Alike o (polled p o a)
   unfolding polled operationSound programSound listSound chipListSound lowest commandSound isStill runningOf suspensionOf dataOf recoveryLeft programIsSuspended raisesIn
-  polled-alike Idle a = alike refl (λ c. refl) (λ h. h) refl (λ l. refl)
-  polled-alike (Programming q) a = alike refl (λ c. refl) (λ h. h) refl (λ l. refl)
-  polled-alike (ProgramSuspended q) a = alike refl (λ c. refl) (λ h. h) refl (λ l. refl)
-  polled-alike (Window e) a = alike refl (λ c. refl) (λ h. h) refl (λ l. refl)
-  polled-alike (Erasing e) a = alike refl (λ c. refl) (λ h. h) refl (λ l. refl)
-  polled-alike (Recovering r) a = alike refl (λ c. refl) (λ h. h) refl (λ l. refl)
+  polled-alike Idle a = alike refl (λ c. refl) (λ h. h) refl refl (λ l. refl)
+  polled-alike (Programming q) a = alike refl (λ c. refl) (λ h. h) refl refl (λ l. refl)
+  polled-alike (ProgramSuspended q) a = alike refl (λ c. refl) (λ h. h) refl refl (λ l. refl)
+  polled-alike (Window e) a = alike refl (λ c. refl) (λ h. h) refl refl (λ l. refl)
+  polled-alike (Erasing e) a = alike refl (λ c. refl) (λ h. h) refl refl (λ l. refl)
+  polled-alike (Recovering r) a = alike refl (λ c. refl) (λ h. h) refl refl (λ l. refl)
   polled-alike (EraseSuspended s) a = inside-polled (s .erase) (s .inside)
-  polled-alike (ChipErasing e) a = alike refl (λ c. refl) (λ h. h) refl (λ l. refl)
+  polled-alike (ChipErasing e) a = alike refl (λ c. refl) (λ h. h) refl refl (λ l. refl)
+  polled-alike (InOneTime i) a = entered-polled i
 
   -- of a suspended erase the register asks nothing more
+  same-reading : (e x : Erase) (r : Reading) → readingSound p (OfErase e) r ≡ readingSound p (OfErase x) r
+  unfolding readingSound
+  same-reading e x (Identity bank) = refl
+  same-reading e x Dybs = refl
+  same-reading e x OtpLock = refl
+
   same-erase : (e x : Erase) (c : Command) → stillCommand p (OfErase e) c ≡ stillCommand p (OfErase x) c
   unfolding stillCommand cycleSound
   same-erase e x Ground = refl
   same-erase e x (Entering c) = refl
-  same-erase e x (Reads r) = refl
+  same-erase e x (Reads r) = same-reading e x r
 
   inside-rested : (e : Erase) (i : Inside) → Alike (EraseSuspended (suspended e i)) (rested (EraseSuspended (suspended e i)))
-  unfolding rested operationSound listSound insideSound commandSound isStill runningOf runningInside suspensionOf dataOf recoveryLeft programIsSuspended raisesIn
-  inside-rested e Nothing = alike refl (λ c. same-erase _ e c) (λ h. h) refl (λ l. refl)
-  inside-rested e (Runs q) = alike refl (λ c. refl) (λ h. h) refl (λ l. refl)
+  unfolding rested operationSound listSound insideSound programSound commandSound isStill runningOf runningInside suspensionOf dataOf recoveryLeft programIsSuspended raisesIn
+  inside-rested e Nothing = alike refl (λ c. same-erase _ e c) (λ h. h) refl refl (λ l. refl)
+  inside-rested e (Runs q) = alike refl (λ c. refl) (λ h. h) refl refl (λ l. refl)
 
   rested-alike : (o : Operation) → Alike o (rested o)
   unfolding rested
@@ -76,6 +92,7 @@ module _ (p : Part) (bits : Protection) where
   rested-alike (Recovering r) = itself _
   rested-alike (EraseSuspended s) = inside-rested (s .erase) (s .inside)
   rested-alike (ChipErasing e) = itself _
+  rested-alike (InOneTime i) = itself _
 
   pub look-alike : (c : Command) (o : Operation) (l : Lent) (a : ℕ) → Alike o (look p bits c o l a .operation)
   unfolding look

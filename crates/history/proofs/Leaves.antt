@@ -7,38 +7,38 @@ use native.Mathlib.Omega.{arith}
 use lib.Dec.{eqb, ltb}
 use lib.ListN.{length}
 use Rattle.geometry.specs.declared.Part.{Part}
-use Rattle.geometry.specs.Parts.{wordCount}
+use Rattle.plain.specs.declared.Array.{Array}
 use Rattle.plain.specs.declared.Written.{Written}
 use Rattle.plain.specs.declared.Program.{Program}
 use Rattle.plain.specs.declared.Erase.{Erase}
 use Rattle.plain.specs.declared.Inside.{Inside}
 use Rattle.plain.specs.declared.Inside.the-variants.{Nothing, Runs}
 use Rattle.plain.specs.declared.Operation.{Operation}
-use Rattle.plain.specs.declared.Operation.the-variants.{Idle, Programming, ProgramSuspended, Window, Erasing, Recovering, EraseSuspended, ChipErasing}
+use Rattle.plain.specs.declared.Operation.the-variants.{Idle, Programming, ProgramSuspended, Window, Erasing, Recovering, EraseSuspended, ChipErasing, InOneTime}
 use Rattle.plain.specs.Choice.{if_then_else_}
 use Rattle.plain.specs.Figures.{programTime, eraseTime, chipTime}
-use Rattle.plain.specs.Lent.{Lent}
+use Rattle.plain.specs.Lent.{Lent, wordsOf}
 use Rattle.plain.specs.Programs.{writes, datum, raises}
-use Rattle.plain.specs.History.{Doing, nothing, programs, waits, erases, recovers, wipes, rests, programsIn, comes, eraseCuts, programCuts, cuts}
+use Rattle.plain.specs.Doings.{Doing, nothing, programs, waits, erases, recovers, wipes, rests, programsIn, entered, programsEntered, comes, eraseCuts, programCuts, cuts}
 use Rattle.plain.specs.Holds.{Fact, programDone, eraseDone, programCut, eraseCut, afterFact, holds}
 use Rattle.plain.specs.Promises.{touches, LastEnded, ended, since}
 use Rattle.plain.proofs.Modest.{raisesInside, raisesIn, Modest}
 use Rattle.plain.proofs.Programs.{modest-leaves}
 use Rattle.plain.proofs.Tools.{by-test, clash}
 use Rattle.history.proofs.Holds.{Holds}
-use Rattle.history.proofs.Seen.{seenInside, seenOp}
+use Rattle.history.proofs.Seen.{seenInside, seenEntered, seenOp}
 
 unfoldable pub Leaves : Part → (start : Lent) → List Fact → Type 0
-Leaves p start fs = (x : ℕ) (d : Written) → x < wordCount p → LastEnded p x d fs → holds p start fs x ≡ datum d x
+Leaves p start fs = (y : Array) (x : ℕ) (d : Written) → x < wordsOf p y → LastEnded p y x d fs → holds p start fs y x ≡ datum d x
 
 -- ---- no fact
 
-some-ended : {p : Part} {x : ℕ} {d : Written} (fs : List Fact) → LastEnded p x d fs → 0 < length fs
+some-ended : {p : Part} {y : Array} {x : ℕ} {d : Written} (fs : List Fact) → LastEnded p y x d fs → 0 < length fs
 some-ended (f ∷ fs) last = omega arith
 
 pub none-leave : (p : Part) (start : Lent) → Leaves p start []
 unfolding Leaves
-none-leave p start x d hx last = absurd (omega (arith, some-ended [] last))
+none-leave p start y x d hx last = absurd (omega (arith, some-ended [] last))
 
 -- ---- one fact more
 
@@ -49,30 +49,30 @@ isEnd (programCut d debris) = false
 isEnd (eraseCut b debris) = false
 
 -- what does not touch a word leaves it as it was
-untouched : (p : Part) (f : Fact) (x old : ℕ) → touches p f x ≡ false → afterFact p f x old ≡ old
+untouched : (p : Part) (f : Fact) (y : Array) (x old : ℕ) → touches p f y x ≡ false → afterFact p f y x old ≡ old
 unfolding touches afterFact
-untouched p (programDone d) x old e = rw e
-untouched p (eraseDone b) x old e = rw e
-untouched p (programCut d debris) x old e = rw e
-untouched p (eraseCut b debris) x old e = rw e
+untouched p (programDone d) y x old e = rw e
+untouched p (eraseDone b) y x old e = rw e
+untouched p (programCut d debris) y x old e = rw e
+untouched p (eraseCut b debris) y x old e = rw e
 
 module _ (p : Part) (start : Lent) (fs : List Fact) (k : Leaves p start fs) where
   -- what was left before, and is not touched now
-  still : (f : Fact) (x : ℕ) (d : Written) → x < wordCount p → touches p f x ≡ false → LastEnded p x d fs → afterFact p f x (holds p start fs x) ≡ datum d x
+  still : (f : Fact) (y : Array) (x : ℕ) (d : Written) → x < wordsOf p y → touches p f y x ≡ false → LastEnded p y x d fs → afterFact p f y x (holds p start fs y x) ≡ datum d x
   unfolding Leaves
-  still f x d hx t before = untouched p f x _ t ∙ k x d hx before
+  still f y x d hx t before = untouched p f y x _ t ∙ k y x d hx before
 
   -- what is no program's end adds none
   other-leaves : (f : Fact) → isEnd f ≡ false → Leaves p start (f ∷ fs)
   unfolding Leaves holds isEnd
-  other-leaves f h x d hx (ended t) = clash refl h
-  other-leaves f h x d hx (since t before) = still f x d hx t before
+  other-leaves f h y x d hx (ended t) = clash refl h
+  other-leaves f h y x d hx (since t before) = still f y x d hx t before
 
   -- a program that asked for no 1 where the word had a 0 leaves its data
   program-leaves : (l : Lent) → Holds p start fs l → (n : Written) → raises n l ≡ false → Leaves p start (programDone n ∷ fs)
   unfolding Leaves Holds holds afterFact
-  program-leaves l h n modest x d hx (ended t) = rw (t, ← h x hx) (modest-leaves p n l modest x t)
-  program-leaves l h n modest x d hx (since t before) = still (programDone n) x d hx t before
+  program-leaves l h n modest y x d hx (ended t) = rw (t, ← h y x hx) (modest-leaves p n l modest y x t)
+  program-leaves l h n modest y x d hx (since t before) = still (programDone n) y x d hx t before
 
 -- ---- a microsecond, and a cut
 
@@ -91,6 +91,11 @@ module _ (p : Part) (start : Lent) (fs : List Fact) (l : Lent) (h : Holds p star
   inside-leaves e Nothing m = k
   inside-leaves e (Runs q) m = program-goes q m
 
+  entered-leaves : (i : Inside) → raisesInside l i ≡ false → Leaves p start (comes p (seenEntered p i) fs)
+  unfolding comes seenEntered raisesInside
+  entered-leaves Nothing m = k
+  entered-leaves (Runs q) m = program-goes q m
+
   pub op-leaves : (o : Operation) → Modest l o → Leaves p start (comes p (seenOp p o) fs)
   unfolding comes seenOp raisesIn
   op-leaves Idle m = k
@@ -101,6 +106,7 @@ module _ (p : Part) (start : Lent) (fs : List Fact) (l : Lent) (h : Holds p star
   op-leaves (Recovering r) m = k
   op-leaves (EraseSuspended s) m = inside-leaves (s .erase) (s .inside) m
   op-leaves (ChipErasing e) m = erase-goes e (chipTime p)
+  op-leaves (InOneTime i) m = entered-leaves i m
 
 module _ (p : Part) (start : Lent) where
   block-leaves : (g b : ℕ) (debris : List ℕ) (fs : List Fact) → Leaves p start fs → Leaves p start (eraseCuts g b debris fs)
@@ -121,3 +127,5 @@ module _ (p : Part) (start : Lent) where
   cut-leaves (wipes l b g) debris fs k = block-leaves g b debris fs k
   cut-leaves (rests l b g) debris fs k = block-leaves g b debris fs k
   cut-leaves (programsIn d pg l b g) debris fs k = word-leaves pg d _ _ (block-leaves g b debris fs k)
+  cut-leaves entered debris fs k = k
+  cut-leaves (programsEntered d g) debris fs k = word-leaves g d debris fs k

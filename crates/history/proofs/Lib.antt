@@ -1,5 +1,7 @@
 pub mod KeptRegister
 pub mod KeptLists
+pub mod Fine
+pub mod KeptCycle
 pub mod KeptWrite
 pub mod KeptRead
 pub mod KeptEvents
@@ -9,6 +11,7 @@ pub mod Kept
 pub mod Awake
 pub mod Modest
 pub mod Seen
+pub mod Heard
 pub mod Writes
 pub mod Holds
 pub mod Leaves
@@ -16,6 +19,9 @@ pub mod Times
 pub mod Cuts
 pub mod Runs
 pub mod Begun
+pub mod Spared
 pub mod Demand
 pub mod Taken
 pub mod Judged
+pub mod WaysOut
+pub mod OneTime

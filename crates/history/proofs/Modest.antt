@@ -9,14 +9,16 @@ use Rattle.plain.specs.declared.Effect.{Effect}
 use Rattle.plain.specs.declared.Effect.the-variants.{Goes, Starts, Protects, Falls, Stays, Drops}
 use Rattle.plain.specs.declared.Device.{Device}
 use Rattle.plain.specs.Commands.{effected}
-use Rattle.plain.specs.Events.{Event, read, write, wait, cut}
+use Rattle.plain.specs.Events.{Event, read, write, wait, cut, range}
 use Rattle.plain.specs.Lent.{Lent}
-use Rattle.plain.specs.Machine.{Outcome, ladder, now, Fit, readEvent, writeEvent, waitEvent, cutEvent, step}
+use Rattle.plain.specs.Machine.{Outcome, ladder, now, handsBack, Fit, readEvent, writeEvent, waitEvent, cutEvent, rangeEvent, step}
 use Rattle.plain.specs.Record.{fresh}
 use Rattle.plain.proofs.Ladder.{by-ladder}
 use Rattle.plain.proofs.Modest.{raisesIn, Modest, ticks-modest}
+use Rattle.plain.proofs.Tools.{by-test}
+use Rattle.history.proofs.Fine.{Fine, starts}
 use Rattle.history.proofs.KeptRead.{look-alike}
-use Rattle.history.proofs.KeptWrite.{Fine, starts, write-fine}
+use Rattle.history.proofs.KeptWrite.{write-fine}
 
 pub fresh-modest : (l : Lent) → Modest l (fresh .operation)
 unfolding raisesIn
@@ -40,8 +42,9 @@ module _ (p : Part) (r : Device) (l : Lent) (h : Modest l (r .operation)) where
   effect-modest Drops f = refl
 
   pub step-modest : (e : Event) → Modest (step p r l e .lent) (step p r l e .answer .device .operation)
-  unfolding Keeps step readEvent writeEvent waitEvent cutEvent raisesIn
+  unfolding Keeps step readEvent writeEvent waitEvent cutEvent rangeEvent raisesIn
   step-modest (read a) = climbs _ Address _ (λ _ _. look-alike p (r .bits) (r .command) (r .operation) l a .modest l ∙ h)
   step-modest (write a w) = climbs _ Address _ (λ fit t. effect-modest _ (write-fine p r l a w (Unit {0}) (fit .sound) t (λ _. tt)))
   step-modest (wait n) = climbs _ Clock _ (λ _ _. ticks-modest p n (now r l) h)
   step-modest (cut debris) = climbs _ Debris _ (λ _ _. refl)
+  step-modest (range first count) = climbs _ Address _ (λ _ _. by-test Keeps (handsBack (r .operation)) (λ _. h) (λ _. h))

@@ -4,79 +4,85 @@ use mathlib.Core.Path.{_≡_, refl, sym, ap, _∙_}
 use mathlib.Core.Bool.{Bool, true, false}
 use lib.Bits.{bitAnd}
 use lib.Dec.{eqb, ltb}
-use borrow.Author.Tests.{eq-eqb, ltb-true, lt-ltb, not-false}
+use borrow.Author.Tests.{eq-eqb, ltb-true, not-false}
 use Rattle.geometry.specs.declared.Part.{Part}
 use Rattle.geometry.specs.Parts.{wordCount}
+use Rattle.meter.specs.declared.Meter.{Meter}
 use Rattle.protection.specs.declared.Protection.{Protection}
+use Rattle.plain.specs.declared.Array.{Array}
 use Rattle.plain.specs.declared.Refusal.{Refusal}
-use Rattle.plain.specs.declared.Refusal.the-variants.{Done, State, Cells, Address, Clock, Debris, Sequence, Raise}
-use Rattle.plain.specs.declared.Erase.{Erase}
+use Rattle.plain.specs.declared.Refusal.the-variants.{Done, State, Cells, Address, Clock, Debris, Busy, Sequence, Raise}
+use Rattle.plain.specs.declared.Written.{Written}
 use Rattle.plain.specs.declared.Inside.{Inside}
 use Rattle.plain.specs.declared.Inside.the-variants.{Nothing, Runs}
 use Rattle.plain.specs.declared.Operation.{Operation}
-use Rattle.plain.specs.declared.Operation.the-variants.{Idle, Programming, ProgramSuspended, Window, Erasing, Recovering, EraseSuspended, ChipErasing}
+use Rattle.plain.specs.declared.Operation.the-variants.{Idle, Programming, ProgramSuspended, Window, Erasing, Recovering, EraseSuspended, ChipErasing, InOneTime}
 use Rattle.plain.specs.declared.Suspension.{Suspension}
-use Rattle.plain.specs.declared.Suspension.the-variants.{Unsuspended, OfProgram, OfErase}
+use Rattle.plain.specs.declared.Suspension.the-variants.{Unsuspended, OfProgram, OfErase, Entered}
 use Rattle.plain.specs.declared.Command.{Command}
 use Rattle.plain.specs.declared.Command.the-variants.{Entering}
 use Rattle.plain.specs.declared.Cycle.the-variants.{ProgramData}
 use Rattle.plain.specs.declared.Effect.{Effect}
 use Rattle.plain.specs.declared.Effect.the-variants.{Goes, Starts, Protects, Falls, Stays, Drops}
 use Rattle.plain.specs.declared.Device.{Device}
-use Rattle.plain.specs.Commands.{keepsOut, started, begins, afterA0, continued, entered, inSuspendedErase, written, effected}
-use Rattle.plain.specs.Events.{Event, read, write, wait, cut}
+use Rattle.plain.specs.Commands.{keepsOut, started, begins, afterA0, continued, entered, unlessRuns, written, effected}
+use Rattle.plain.specs.Events.{Event, read, write, wait, cut, range}
 use Rattle.plain.specs.Figures.{programTime}
-use Rattle.plain.specs.Lent.{Lent, cellAt}
-use Rattle.plain.specs.Machine.{Outcome, outcome, ladder, Fit, readEvent, writeEvent, waitEvent, cutEvent, step}
+use Rattle.plain.specs.Lent.{Lent, wordAt}
+use Rattle.plain.specs.Machine.{Outcome, outcome, ladder, handsBack, Fit, readEvent, writeEvent, waitEvent, cutEvent, rangeEvent, step}
 use Rattle.plain.specs.Operations.{runningInside, runningOf, suspensionOf}
-use Rattle.plain.specs.Programs.{writing, writes, datum, liesIn, raises, finished}
-use Rattle.plain.specs.Raise.{WouldStart, wouldLeave, Works, CannotWork, spoils, RaiseOnly, RaiseAlways, OthersStart}
-use Rattle.plain.specs.Record.{suspended}
+use Rattle.plain.specs.Programs.{writes, datum, arrayWritten, raises, finished}
+use Rattle.plain.specs.Raise.{asks, WouldStart, wouldLeave, Works, CannotWork, spoils, RaiseOnly, RaiseAlways, OthersStart}
 use Rattle.plain.specs.Refusals.{number}
 use Rattle.plain.specs.Sound.{isGround, isStill, commandSound}
-use Rattle.plain.specs.Time.{Moment, moment, ticks}
+use Rattle.plain.specs.Time.{Moment, moment, resting, ticks}
 use Rattle.plain.proofs.EventLaws.{write-passes}
 use Rattle.plain.proofs.Facts.{sound-command}
 use Rattle.plain.proofs.FigureLaws.{program-some}
-use Rattle.plain.proofs.InTime.{program-running, inside-running}
+use Rattle.plain.proofs.InTime.{program-running, inside-running, entered-running}
 use Rattle.plain.proofs.Ladder.{by-ladder}
 use Rattle.plain.proofs.Programs.{finished-at, modest-leaves, others-spoil}
 use Rattle.plain.proofs.Ticks.{lands}
-use Rattle.plain.proofs.Tools.{by-cases, clash, neither-right}
-use Rattle.history.proofs.KeptWrite.{never, Asking, Fine, falls, raised, stays, write-fine}
+use Rattle.plain.proofs.Tools.{by-test, by-cases, clash, neither-right}
+use Rattle.history.proofs.KeptRegister.{selected-lies}
+use Rattle.history.proofs.Fine.{never, Asking, Fine, falls, raised, stays}
+use Rattle.history.proofs.KeptWrite.{write-fine}
 
 -- ---- what a started program leaves
 
-module _ (p : Part) (r : Device) (l : Lent) (a w : ℕ) where
-  leaves-in : (s : Suspension) → keepsOut p s (writing a w) ≡ false
-      → ticks p (programTime p) (moment (r .meter) (begins s (started p (writing a w))) l) .lent ≡ finished (writing a w) l
+module _ (p : Part) (m : Meter) (l : Lent) (d : Written) where
+  leaves-in : (s : Suspension) → keepsOut p s d ≡ false → ticks p (programTime p) (moment m (begins s (started p d)) l) .lent ≡ finished d l
   unfolding keepsOut begins
-  leaves-in Unsuspended h = ap (λ (m : Moment). m .lent) (lands p _ _ _ _ (program-running p (started p (writing a w))) (programTime p) (r .meter) l (program-some p))
+  leaves-in Unsuspended h = ap (λ (m : Moment). m .lent) (lands p _ _ _ _ (program-running p (started p d)) (programTime p) m l (program-some p))
   leaves-in (OfProgram q) h = clash refl h
-  leaves-in (OfErase e) h = ap (λ (m : Moment). m .lent) (lands p _ _ _ _ (inside-running p e (started p (writing a w))) (programTime p) (r .meter) l (program-some p))
+  leaves-in (OfErase e) h = ap (λ (m : Moment). m .lent) (lands p _ _ _ _ (inside-running p e (started p d)) (programTime p) m l (program-some p))
+  leaves-in Entered h = ap (λ (m : Moment). m .lent) (lands p _ _ _ _ (entered-running p (started p d)) (programTime p) m l (program-some p))
 
-  module _ (fit : Fit p r l) (within : a < wordCount p) (allowed : keepsOut p (suspensionOf (r .operation)) (writing a w) ≡ false) where
-    -- old AND data, in each word that it writes
-    left-at : (x : ℕ) → writes (writing a w) x ≡ true → cellAt (wouldLeave p r l a w) x ≡ bitAnd (cellAt l x) (datum (writing a w) x)
-    unfolding liesIn
-    left-at x e =
-        ap (λ (k : Lent). cellAt k x) (leaves-in (suspensionOf (r .operation)) allowed)
-        ∙ finished-at p (writing a w) l (fit .whole) (lt-ltb a (wordCount p) within) x ∙ rw e
+module _ (p : Part) (r : Device) (l : Lent) (a w : ℕ) (fit : Fit p r l) (within : a < wordCount p) (allowed : keepsOut p (suspensionOf (r .operation)) (asks r a w) ≡ false) where
+  abbrev into : Array
+  into = arrayWritten (asks r a w)
 
-    spoilt : raises (writing a w) l ≡ true → Works p r l a w → ⊥
-    spoilt h f = others-spoil p (writing a w) l h (λ x e. sym (left-at x e) ∙ f x e)
+  -- old AND data, in each word that it writes
+  left-at : (x : ℕ) → writes (asks r a w) into x ≡ true → wordAt (wouldLeave p r l a w) into x ≡ bitAnd (wordAt l into x) (datum (asks r a w) x)
+  left-at x e =
+      ap (λ (k : Lent). wordAt k into x) (leaves-in p (r .meter) l (asks r a w) (suspensionOf (r .operation)) allowed)
+      ∙ finished-at p (asks r a w) l (fit .whole) (selected-lies (suspensionOf (r .operation)) a w p within) into x ∙ rw e
 
-    working : raises (writing a w) l ≡ false → Works p r l a w
-    working h x e = left-at x e ∙ modest-leaves p (writing a w) l h x e
+  spoilt : raises (asks r a w) l ≡ true → Works p r l a w → ⊥
+  spoilt h f = others-spoil p (asks r a w) l h (λ x e. sym (left-at x e) ∙ f x e)
+
+  working : raises (asks r a w) l ≡ false → Works p r l a w
+  working h x e = left-at x e ∙ modest-leaves p (asks r a w) l h into x e
 
 -- ---- the data cycle
 
 module _ (p : Part) (bits : Protection) (l : Lent) (a w : ℕ) where
-  inside-at-data : (e : Erase) (i : Inside) → commandSound p (EraseSuspended (suspended e i)) (Entering ProgramData) ≡ true
-      → inSuspendedErase i (entered p bits (OfErase e) (Entering ProgramData) l a w) ≡ afterA0 p bits (OfErase e) l a w
-  unfolding commandSound isStill isGround runningOf runningInside inSuspendedErase entered continued
-  inside-at-data e Nothing h = refl
-  inside-at-data e (Runs q) h = clash h refl
+  -- nothing runs where a command is half entered
+  inside-at-data : (around : Inside → Operation) → ((i : Inside) → runningOf (around i) ≡ runningInside i) → (i : Inside) (x : Effect)
+      → commandSound p (around i) (Entering ProgramData) ≡ true → unlessRuns i x ≡ x
+  unfolding commandSound isStill isGround runningInside unlessRuns
+  inside-at-data around runs Nothing x h = refl
+  inside-at-data around runs (Runs q) x h = clash (rw (runs (Runs q)) at h) refl
 
   at-data : (o : Operation) → commandSound p o (Entering ProgramData) ≡ true → written p bits o (Entering ProgramData) l a w ≡ afterA0 p bits (suspensionOf o) l a w
   unfolding commandSound isStill isGround runningOf suspensionOf written entered continued
@@ -86,8 +92,9 @@ module _ (p : Part) (bits : Protection) (l : Lent) (a w : ℕ) where
   at-data (Window e) h = clash h refl
   at-data (Erasing e) h = clash h refl
   at-data (Recovering r) h = clash h refl
-  at-data (EraseSuspended s) h = inside-at-data (s .erase) (s .inside) h
+  at-data (EraseSuspended s) h = inside-at-data (resting (s .erase)) (λ i. refl) (s .inside) _ h
   at-data (ChipErasing e) h = clash h refl
+  at-data (InOneTime i) h = inside-at-data InOneTime (λ i. refl) i _ h
 
   in-data-cycle : (o : Operation) (c : Command) → c ≡ Entering ProgramData → commandSound p o c ≡ true → written p bits o c l a w ≡ afterA0 p bits (suspensionOf o) l a w
   in-data-cycle o c e h = rw e (at-data o (rw e at h))
@@ -104,14 +111,14 @@ module _ (p : Part) (r : Device) (l : Lent) (a w : ℕ) (s : WouldStart p r l a 
 pub raise-always : (p : Part) → RaiseAlways p
 unfolding afterA0 effected
 raise-always p r l e (spoils {a} {w} s n) =
-    by-cases (raises (writing a w) l) (λ t. data-write p r l a w s ∙ rw (s .unprotected, s .allowed, t))
+    by-cases (raises (asks r a w) l) (λ t. data-write p r l a w s ∙ rw (s .unbarred, s .allowed, t))
     (λ t. absurd (n (working p r l a w (s .fit) (s .in-part) (s .allowed) t)))
 
 pub others-start : (p : Part) → OthersStart p
 unfolding afterA0 effected
 others-start p r l a w s f =
-    by-cases (raises (writing a w) l) (λ t. absurd (spoilt p r l a w (s .fit) (s .in-part) (s .allowed) t f))
-    (λ t. ap (λ (o : Outcome). o .answer .refusal) (data-write p r l a w s) ∙ rw (s .unprotected, s .allowed, t))
+    by-cases (raises (asks r a w) l) (λ t. absurd (spoilt p r l a w (s .fit) (s .in-part) (s .allowed) t f))
+    (λ t. ap (λ (o : Outcome). o .answer .refusal) (data-write p r l a w s) ∙ rw (s .unbarred, s .allowed, t))
 
 -- an answer of another number
 not-raise : {A : Type 0} (n : Refusal) → eqb (number n) 14 ≡ false → n ≡ Raise → A
@@ -139,10 +146,10 @@ module _ (p : Part) (r : Device) (l : Lent) (e : Event) where
 
 asked : (p : Part) (r : Device) (l : Lent) (a w : ℕ) → Fit p r l → a < wordCount p → Asking p (r .bits) l a w (suspensionOf (r .operation)) (r .command) → CannotWork p r l (write a w)
 asked p r l a w f h k =
-    spoils (record { fit = f; in-part = h; cycle = k .cycle; unprotected = k .unprotected; allowed = k .allowed }) (spoilt p r l a w f h (k .allowed) (k .raises))
+    spoils (record { fit = f; in-part = h; cycle = k .cycle; unbarred = k .unbarred; allowed = k .allowed }) (spoilt p r l a w f h (k .allowed) (k .raises))
 
 pub raise-only : (p : Part) → RaiseOnly p
-unfolding Only step readEvent writeEvent waitEvent cutEvent number
+unfolding Only step readEvent writeEvent waitEvent cutEvent rangeEvent number
 raise-only p r l (read a) = climbs p r l (read a) _ Address _ refl (λ _ _. not-raise Done refl)
 raise-only p r l (write a w) =
     climbs p r l (write a w) _ Address _ refl
@@ -150,3 +157,6 @@ raise-only p r l (write a w) =
     (write-fine p r l a w _ (f .sound) t (asked p r l a w f (ltb-true a (wordCount p) (not-false (ltb a (wordCount p)) t)))))
 raise-only p r l (wait n) = climbs p r l (wait n) _ Clock _ refl (λ _ _. not-raise Done refl)
 raise-only p r l (cut debris) = climbs p r l (cut debris) _ Debris _ refl (λ _ _. not-raise Done refl)
+raise-only p r l (range first count) =
+    let F = Only p r l (range first count) in
+    climbs p r l (range first count) _ Address _ refl (λ _ _. by-test F (handsBack (r .operation)) (λ _. not-raise Done refl) (λ _. not-raise Busy refl))

@@ -8,12 +8,12 @@ use borrow.Author.Tests.{ltb-false}
 use Rattle.geometry.specs.declared.Part.{Part}
 use Rattle.protection.specs.declared.Protection.{Protection}
 use Rattle.plain.specs.declared.Refusal.{Refusal}
-use Rattle.plain.specs.declared.Refusal.the-variants.{Done, State, Cells, Address, Clock, Debris}
+use Rattle.plain.specs.declared.Refusal.the-variants.{Done, State, Cells, Address, Clock, Debris, Busy}
 use Rattle.plain.specs.declared.Operation.{Operation}
 use Rattle.plain.specs.declared.Command.{Command}
 use Rattle.plain.specs.declared.Device.{Device}
 use Rattle.plain.specs.declared.Seen.{Seen}
-use Rattle.plain.specs.Events.{Event, read, write, wait, cut}
+use Rattle.plain.specs.Events.{Event, read, write, wait, cut, range}
 use Rattle.plain.specs.Lent.{Lent}
 use Rattle.plain.specs.Operations.{runningOf, suspensionOf}
 use Rattle.plain.specs.Record.{device, answer}
@@ -21,8 +21,9 @@ use Rattle.plain.specs.Commands.{written, effected}
 use Rattle.plain.specs.Time.{ticks}
 use Rattle.plain.specs.Status.{polls, readingOn, rests, look}
 use Rattle.plain.specs.Cut.{debrisNeeded}
-use Rattle.plain.specs.Machine.{Outcome, outcome, refused, ladder, now, waited, cutTaken, readEvent, writeEvent, waitEvent, cutEvent, step, run, Fit}
-use Rattle.plain.specs.History.{Told, kind, unheard, cuts, wroteAs, waitedAs, cutAs, tell, told}
+use Rattle.plain.specs.Machine.{Outcome, outcome, refused, ladder, now, waited, cutTaken, handsBack, readEvent, writeEvent, waitEvent, cutEvent, rangeEvent, step, run, Fit}
+use Rattle.plain.specs.Doings.{cuts}
+use Rattle.plain.specs.History.{Told, kind, unheard, wroteAs, waitedAs, cutAs, tell, told}
 use Rattle.plain.specs.Holds.{Fact}
 use Rattle.plain.proofs.Tools.{by-test}
 use Rattle.plain.proofs.Facts.{sound-operation}
@@ -62,6 +63,7 @@ module _ (p : Part) (start : Lent) where
   unheard-step r l fs (write a w) n k = record { facts = fs; tells = rw k; hold = λ h. h; leave = λ h g k. k }
   unheard-step r l fs (wait m) n k = record { facts = fs; tells = rw k; hold = λ h. h; leave = λ h g k. k }
   unheard-step r l fs (cut debris) n k = record { facts = fs; tells = rw k; hold = λ h. h; leave = λ h g k. k }
+  unheard-step r l fs (range first count) n k = record { facts = fs; tells = refl; hold = λ h. h; leave = λ h g k. k }
 
   module _ (r : Device) (l : Lent) (fs : List Fact) where
     read-step : (a : ℕ) (w : ℕ) (o : Operation) → seenOp p o ≡ seenOp p (r .operation)
@@ -89,6 +91,11 @@ module _ (p : Part) (start : Lent) where
           leave = λ h g k. cut-leaves p start (seenOp p (r .operation)) debris fs k;
         }
 
+    -- a range changes nothing and tells nothing
+    range-step : (first count : ℕ) (n : Refusal) → Stepped r l fs (range first count) (refused n r l)
+    unfolding tell
+    range-step first count n = record { facts = fs; tells = refl; hold = λ h. h; leave = λ h g k. k }
+
     climbs : (e : Event) (fails : Bool) (own : Refusal) (taken : Outcome) → kind own ≡ unheard → (Fit p r l → fails ≡ false → Stepped r l fs e taken)
         → Stepped r l fs e (ladder p r l fails own taken)
     unfolding kind
@@ -97,12 +104,15 @@ module _ (p : Part) (start : Lent) where
         (λ _. unheard-step r l fs e own k) f
 
     pub stepped : (e : Event) → Awake (r .operation) → Stepped r l fs e (step p r l e)
-    unfolding step readEvent writeEvent waitEvent cutEvent kind
+    unfolding step readEvent writeEvent waitEvent cutEvent rangeEvent kind
     stepped (read a) n = climbs (read a) _ Address _ refl (λ f t. read-step a _ _ (look-seen p (r .bits) (r .command) (r .operation) l a))
     stepped (write a w) n = climbs (write a w) _ Address _ refl (λ f t. write-step a w n)
     stepped (wait m) n = climbs (wait m) _ Clock _ refl (λ f t. wait-step m f)
     stepped (cut debris) n =
         climbs (cut debris) _ Debris _ refl (λ f t. cut-step debris n f (ltb-false (length debris) (debrisNeeded p (r .operation)) t))
+    stepped (range first count) n =
+        climbs (range first count) _ Address _ refl
+        (λ f t. by-test (Stepped r l fs (range first count)) (handsBack (r .operation)) (λ _. range-step first count Done) (λ _. range-step first count Busy))
 
   -- ---- a run
 

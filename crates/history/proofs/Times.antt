@@ -6,14 +6,11 @@ use mathlib.Core.Bool.{true, false}
 use mathlib.Core.List.{List, _∷_}
 use native.Mathlib.Omega.{arith}
 use lib.Dec.{ltb, eqb}
-use lib.ListN.{length}
 use borrow.Author.Tests.{eq-eqb, ne-eqb, leb-true, leb-false}
 use Rattle.blocks.specs.declared.Blocks.{Blocks}
 use Rattle.blocks.specs.Blocks.{firstFrom}
-use Rattle.cells.proofs.Laws.{length-erased}
 use Rattle.geometry.specs.declared.Part.{Part}
-use Rattle.geometry.specs.Parts.{blockCount, wordCount, firstOf, sizeOf}
-use Rattle.geometry.proofs.Laid.{block-fits}
+use Rattle.geometry.specs.Parts.{blockCount}
 use Rattle.protection.specs.declared.Protection.{Protection}
 use Rattle.plain.specs.declared.Program.{Program}
 use Rattle.plain.specs.declared.Erase.{Erase}
@@ -21,25 +18,25 @@ use Rattle.plain.specs.declared.Inside.{Inside}
 use Rattle.plain.specs.declared.Inside.the-variants.{Nothing, Runs}
 use Rattle.plain.specs.declared.SuspendedErase.{SuspendedErase}
 use Rattle.plain.specs.declared.Operation.{Operation}
-use Rattle.plain.specs.declared.Operation.the-variants.{Idle, Programming, ProgramSuspended, Window, Erasing, Recovering, EraseSuspended, ChipErasing}
-use Rattle.plain.specs.declared.Running.{Running}
-use Rattle.plain.specs.declared.Running.the-variants.{Still, Programs, Waits, Erases, Recovers, ErasesChip}
+use Rattle.plain.specs.declared.Operation.the-variants.{Idle, Programming, ProgramSuspended, Window, Erasing, Recovering, EraseSuspended, ChipErasing, InOneTime}
+use Rattle.plain.specs.declared.Suspension.{Suspension}
 use Rattle.plain.specs.declared.Command.{Command}
 use Rattle.plain.specs.Choice.{if_then_else_}
 use Rattle.plain.specs.Figures.{programTime, windowTime, eraseTime, recoveryTime, chipTime}
-use Rattle.plain.specs.Lent.{Lent}
+use Rattle.plain.specs.Lent.{Lent, Whole}
 use Rattle.plain.specs.Operations.{runningInside, runningOf}
 use Rattle.plain.specs.Programs.{finished}
 use Rattle.plain.specs.Sound.{operationSound}
-use Rattle.plain.specs.Time.{Moment, last, onward, current, operationTick, insideTick, lentTick, eraseFinished, tick, ticks}
-use Rattle.plain.specs.History.{Doing, nothing, programs, waits, erases, recovers, wipes, rests, programsIn, Told, telling, draws, goes, comes, microsecond, time}
+use Rattle.plain.specs.Time.{Moment, last, onward, current, resting, operationTick, insideTick, lentTick, eraseFinished, tick, ticks}
+use Rattle.plain.specs.Doings.{Doing, nothing, programs, waits, erases, recovers, wipes, rests, programsIn, entered, programsEntered, draws, goes, comes}
+use Rattle.plain.specs.History.{Told, telling, microsecond, time}
 use Rattle.plain.specs.Holds.{Fact, programDone, eraseDone}
-use Rattle.plain.proofs.Tools.{by-test, by-cases}
-use Rattle.plain.proofs.Facts.{ProgramFacts, EraseFacts, programming, window, erasing, recovering, chip-erasing, inside-runs}
+use Rattle.plain.proofs.Tools.{by-cases}
+use Rattle.plain.proofs.Facts.{ProgramFacts, EraseFacts, programming, window, erasing, recovering, chip-erasing, inside-runs, entered-runs}
 use Rattle.plain.proofs.Modest.{Modest, tick-modest}
-use Rattle.plain.proofs.Programs.{length-finished}
+use Rattle.plain.proofs.Quick.{tick-keeps}
 use Rattle.plain.proofs.SoundTime.{tick-fit}
-use Rattle.history.proofs.Seen.{seenInside, seenOp, none-gone}
+use Rattle.history.proofs.Seen.{seenInside, seenEntered, seenOp, none-gone}
 use Rattle.history.proofs.Holds.{Holds, holds-program, holds-erase}
 use Rattle.history.proofs.Leaves.{Leaves, op-leaves}
 
@@ -59,19 +56,25 @@ module _ (p : Part) (bits : Protection) where
   Fit o = operationSound p bits o ≡ true
 
   -- a program counts on, or ends
-  program-goes : (q : Program) (on : ℕ → Doing) (next : Doing) → ProgramFacts p bits q
+  program-goes : (s : Suspension) (q : Program) (on : ℕ → Doing) (next : Doing) → ProgramFacts p bits s q
       → (if eqb (suc (programTime p - q .left)) (programTime p) then next else on (suc (programTime p - q .left))) ≡ (if last (q .left) then next else on (programTime p - (q .left - 1)))
-  program-goes q on next f =
+  program-goes s q on next f =
       rw (full-time (q .left) (programTime p) (f .some-left) (f .most-left))
       (by-cases (last (q .left)) (λ t. rw t) (λ t. rw t (ap on (one-more (q .left) (programTime p) t (f .most-left)))))
 
-  inside-goes : (s : SuspendedErase) (i : Inside) → s .inside ≡ i → Fit (EraseSuspended s) → goes p (seenInside p (s .erase) i) ≡ seenOp p (insideTick (s .erase) i)
+  inside-goes : (s : SuspendedErase) (i : Inside) → s .inside ≡ i → Fit (EraseSuspended s) → goes p (seenInside p (s .erase) i) ≡ seenOp p (insideTick (resting (s .erase)) i)
   unfolding goes seenOp seenInside insideTick
   inside-goes s Nothing d f = refl
   inside-goes s (Runs q) d f =
       let e = s .erase in
-      program-goes q (λ g. programsIn (q .writes) g (e .list) (e .hand) (eraseTime p - e .left)) (rests (e .list) (e .hand) (eraseTime p - e .left)) (inside-runs p bits s q f d .program)
+      program-goes _ q (λ g. programsIn (q .writes) g (e .list) (e .hand) (eraseTime p - e .left)) (rests (e .list) (e .hand) (eraseTime p - e .left)) (inside-runs p bits s q f d .program)
       ∙ by-cases (last (q .left)) (λ t. rw t) (λ t. rw t)
+
+  entered-goes : (i : Inside) → Fit (InOneTime i) → goes p (seenEntered p i) ≡ seenOp p (insideTick InOneTime i)
+  unfolding goes seenOp seenEntered insideTick
+  entered-goes Nothing f = refl
+  entered-goes (Runs q) f =
+      program-goes _ q (programsEntered (q .writes)) entered (entered-runs p bits q f) ∙ by-cases (last (q .left)) (λ t. rw t) (λ t. rw t)
 
   -- the next listed block, in both tellings
   block-goes : (e : Erase) (again : Blocks → ℕ → ℕ → Doing) (over : Erase → Operation) (full : ℕ)
@@ -87,7 +90,7 @@ module _ (p : Part) (bits : Protection) where
   unfolding goes seenOp seenInside operationTick
   op-goes Idle f = refl
   op-goes (Programming q) f =
-      program-goes q (programs (q .writes)) nothing (programming p bits q f) ∙ by-cases (last (q .left)) (λ t. rw t) (λ t. rw t)
+      program-goes _ q (programs (q .writes)) nothing (programming p bits q f) ∙ by-cases (last (q .left)) (λ t. rw t) (λ t. rw t)
   op-goes (ProgramSuspended q) f = refl
   op-goes (Window e) s =
       let f = window p bits e s .erase in
@@ -110,11 +113,17 @@ module _ (p : Part) (bits : Protection) where
       rw (full-time (e .left) (chipTime p) (f .some-left) (f .most-left))
       (by-cases (last (e .left)) (λ t. rw t (block-goes e wipes ChipErasing (chipTime p) (λ x. refl)))
       (λ t. rw t (ap (wipes (e .list) (e .hand)) (one-more (e .left) (chipTime p) t (f .most-left)))))
+  op-goes (InOneTime i) s = entered-goes i s
 
   inside-draws : (e : Erase) (i : Inside) → draws p (seenInside p e i) ≡ current p (runningInside i)
   unfolding draws seenInside runningInside current
   inside-draws e Nothing = refl
   inside-draws e (Runs q) = refl
+
+  entered-draws : (i : Inside) → draws p (seenEntered p i) ≡ current p (runningInside i)
+  unfolding draws seenEntered runningInside current
+  entered-draws Nothing = refl
+  entered-draws (Runs q) = refl
 
   pub op-draws : (o : Operation) → draws p (seenOp p o) ≡ current p (runningOf o)
   unfolding draws seenOp runningOf current
@@ -126,59 +135,50 @@ module _ (p : Part) (bits : Protection) where
   op-draws (Recovering r) = refl
   op-draws (EraseSuspended x) = inside-draws (x .erase) (x .inside)
   op-draws (ChipErasing e) = refl
+  op-draws (InOneTime i) = entered-draws i
 
   -- ---- the facts, and the cells
 
-  module _ (start : Lent) (fs : List Fact) (l : Lent) (long : length (l .cells) ≡ wordCount p) (h : Holds p start fs l) where
-    program-holds : (q : Program) → ProgramFacts p bits q
+  module _ (start : Lent) (fs : List Fact) (l : Lent) (whole : Whole p l) (h : Holds p start fs l) where
+    program-holds : (s : Suspension) (q : Program) → ProgramFacts p bits s q
         → Holds p start (if eqb (suc (programTime p - q .left)) (programTime p) then programDone (q .writes) ∷ fs else fs) (if last (q .left) then finished (q .writes) l else l)
-    program-holds q f =
+    program-holds s q f =
         rw (full-time (q .left) (programTime p) (f .some-left) (f .most-left))
-        (by-cases (last (q .left)) (λ t. rw t (holds-program p start fs l long h (q .writes) (f .in-part))) (λ t. rw t h))
+        (by-cases (last (q .left)) (λ t. rw t (holds-program p start fs l whole h (q .writes) (f .in-part))) (λ t. rw t h))
 
     erase-holds : (e : Erase) (full : ℕ) → EraseFacts p bits e full
         → Holds p start (if eqb (suc (full - e .left)) full then eraseDone (e .hand) ∷ fs else fs) (if last (e .left) then eraseFinished p e l else l)
     erase-holds e full f =
         rw (full-time (e .left) full (f .some-left) (f .most-left))
-        (by-cases (last (e .left)) (λ t. rw t (holds-erase p start fs l long h e)) (λ t. rw t h))
+        (by-cases (last (e .left)) (λ t. rw t (holds-erase p start fs l whole h e)) (λ t. rw t h))
 
     inside-holds : (s : SuspendedErase) (i : Inside) → s .inside ≡ i → Fit (EraseSuspended s) → Holds p start (comes p (seenInside p (s .erase) i) fs) (lentTick p (runningInside i) l)
     unfolding comes seenInside runningInside lentTick
     inside-holds s Nothing d f = h
-    inside-holds s (Runs q) d f = program-holds q (inside-runs p bits s q f d .program)
+    inside-holds s (Runs q) d f = program-holds _ q (inside-runs p bits s q f d .program)
+
+    entered-holds : (i : Inside) → Fit (InOneTime i) → Holds p start (comes p (seenEntered p i) fs) (lentTick p (runningInside i) l)
+    unfolding comes seenEntered runningInside lentTick
+    entered-holds Nothing f = h
+    entered-holds (Runs q) f = program-holds _ q (entered-runs p bits q f)
 
     pub op-holds : (o : Operation) → Fit o → Holds p start (comes p (seenOp p o) fs) (lentTick p (runningOf o) l)
     unfolding comes seenOp runningOf lentTick
     op-holds Idle f = h
-    op-holds (Programming q) f = program-holds q (programming p bits q f)
+    op-holds (Programming q) f = program-holds _ q (programming p bits q f)
     op-holds (ProgramSuspended q) f = h
     op-holds (Window e) f = h
     op-holds (Erasing e) f = erase-holds e (eraseTime p) (erasing p bits e f .erase)
     op-holds (Recovering r) f = h
     op-holds (EraseSuspended x) f = inside-holds x (x .inside) refl f
     op-holds (ChipErasing e) f = erase-holds e (chipTime p) (chip-erasing p bits e f)
-
-  -- as many cells as before
-  erase-long : (e : Erase) (l : Lent) → length (l .cells) ≡ wordCount p → length ((if last (e .left) then eraseFinished p e l else l) .cells) ≡ length (l .cells)
-  erase-long e l long =
-      by-test (λ (x : Lent). length (x .cells) ≡ length (l .cells)) (last (e .left))
-      (λ t. length-erased (l .cells) (firstOf p (e .hand)) (sizeOf p (e .hand)) (rw long (block-fits p (e .hand)))) (λ t. refl)
-
-  pub tick-long : (r : Running) (l : Lent) → length (l .cells) ≡ wordCount p → length (lentTick p r l .cells) ≡ length (l .cells)
-  unfolding lentTick
-  tick-long Still l long = refl
-  tick-long (Programs q) l long =
-      by-test (λ (x : Lent). length (x .cells) ≡ length (l .cells)) (last (q .left)) (λ t. length-finished (q .writes) l) (λ t. refl)
-  tick-long (Waits e) l long = refl
-  tick-long (Erases e) l long = erase-long e l long
-  tick-long (Recovers r) l long = refl
-  tick-long (ErasesChip e) l long = erase-long e l long
+    op-holds (InOneTime i) f = entered-holds i f
 
 -- ---- any number of microseconds
 
 module _ (p : Part) (start : Lent) (c : Command) (bits : Protection) where
   abbrev pub seenAt : Moment → List Fact → Told
-  seenAt m fs = telling c (seenOp p (m .operation)) (bits .dyb) (bits .ppb) fs (m .meter .clock) (m .meter .charge)
+  seenAt m fs = telling c (seenOp p (m .operation)) (bits .dyb) (bits .ppb) (bits .sealed) fs (m .meter .clock) (m .meter .charge)
 
   one-told : (m : Moment) (fs : List Fact) → operationSound p bits (m .operation) ≡ true → microsecond p (seenAt m fs) ≡ seenAt (tick p m) (comes p (seenOp p (m .operation)) fs)
   unfolding microsecond tick
@@ -189,20 +189,18 @@ module _ (p : Part) (start : Lent) (c : Command) (bits : Protection) where
     pub tells : time p n (seenAt m fs) ≡ seenAt (ticks p n m) facts
     pub hold : Holds p start fs (m .lent) → Holds p start facts (ticks p n m .lent)
     pub leave : Holds p start fs (m .lent) → Modest (m .lent) (m .operation) → Leaves p start fs → Leaves p start facts
-    pub size : length (ticks p n m .lent .cells) ≡ length (m .lent .cells)
 
-  pub waited-told : (n : ℕ) (m : Moment) (fs : List Fact) → operationSound p bits (m .operation) ≡ true → length (m .lent .cells) ≡ wordCount p → Waited n m fs
+  pub waited-told : (n : ℕ) (m : Moment) (fs : List Fact) → operationSound p bits (m .operation) ≡ true → Whole p (m .lent) → Waited n m fs
   unfolding time ticks tick
-  waited-told zero m fs f long = record { facts = fs; tells = refl; hold = λ h. h; leave = λ h g k. k; size = refl }
-  waited-told (suc n) m fs f long =
-      let more = tick-long p bits (runningOf (m .operation)) (m .lent) long in
-      let w = waited-told n (tick p m) (comes p (seenOp p (m .operation)) fs) (tick-fit p bits (m .operation) f) (more ∙ long) in
+  waited-told zero m fs f whole = record { facts = fs; tells = refl; hold = λ h. h; leave = λ h g k. k }
+  waited-told (suc n) m fs f whole =
+      let more = tick-keeps p (runningOf (m .operation)) (m .lent) whole in
+      let w = waited-told n (tick p m) (comes p (seenOp p (m .operation)) fs) (tick-fit p bits (m .operation) f) (λ y. more y ∙ whole y) in
       record {
         facts = w .facts;
         tells = ap (time p n) (one-told m fs f) ∙ w .tells;
-        hold = λ h. w .hold (op-holds p bits start fs (m .lent) long h (m .operation) f);
+        hold = λ h. w .hold (op-holds p bits start fs (m .lent) whole h (m .operation) f);
         leave = λ h g k.
-            w .leave (op-holds p bits start fs (m .lent) long h (m .operation) f) (tick-modest p (m .operation) (m .lent) g)
+            w .leave (op-holds p bits start fs (m .lent) whole h (m .operation) f) (tick-modest p (m .operation) (m .lent) g)
             (op-leaves p start fs (m .lent) h k (m .operation) g);
-        size = w .size ∙ more;
       }

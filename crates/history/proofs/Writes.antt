@@ -1,248 +1,102 @@
 -- A write, taken or refused: the history goes on saying what the record says.
-use Prim.Native.Nat.{ℕ, _%_}
+use Prim.Native.Nat.{ℕ}
 use mathlib.Core.Path.{_≡_, refl}
-use mathlib.Core.Bool.{Bool, true, false, _&&_, not}
+use mathlib.Core.Bool.{false, not}
 use mathlib.Core.List.{List}
 use lib.Dec.{eqb}
-use borrow.Author.Tests.{eqb-true}
 use Rattle.geometry.specs.declared.Part.{Part}
 use Rattle.geometry.specs.Parts.{blockOf, bankOf, bankOfBlock}
 use Rattle.meter.specs.declared.Meter.{Meter}
 use Rattle.protection.specs.declared.Protection.{Protection}
-use Rattle.protection.specs.Protection.{protected, unprotected, allProtected}
-use Rattle.plain.specs.declared.Refusal.{Refusal}
-use Rattle.plain.specs.declared.Refusal.the-variants.{Busy, Sequence, Bank, Protected, Suspended, Locked, Raise}
+use Rattle.protection.specs.Protection.{protected}
+use Rattle.plain.specs.declared.Refusal.the-variants.{Busy, Bank, Protected}
 use Rattle.plain.specs.declared.Erase.{Erase}
 use Rattle.plain.specs.declared.Inside.{Inside}
 use Rattle.plain.specs.declared.Inside.the-variants.{Nothing, Runs}
 use Rattle.plain.specs.declared.Operation.{Operation}
-use Rattle.plain.specs.declared.Operation.the-variants.{Idle, Programming, ProgramSuspended, Window, Erasing, Recovering, EraseSuspended, ChipErasing}
+use Rattle.plain.specs.declared.Operation.the-variants.{Idle, Programming, ProgramSuspended, Window, Erasing, Recovering, EraseSuspended, ChipErasing, InOneTime}
 use Rattle.plain.specs.declared.Suspension.{Suspension}
-use Rattle.plain.specs.declared.Suspension.the-variants.{Unsuspended, OfProgram, OfErase}
+use Rattle.plain.specs.declared.Suspension.the-variants.{Unsuspended, OfErase, Entered}
 use Rattle.plain.specs.declared.Command.{Command}
-use Rattle.plain.specs.declared.Command.the-variants.{Ground, Entering, Reads}
-use Rattle.plain.specs.declared.Cycle.{Cycle}
-use Rattle.plain.specs.declared.Cycle.the-variants.{Unlock, Unlocked, ProgramData, EraseSetup, EraseUnlock, EraseUnlocked, DybData, PpbSetup, PpbSetting, PpbClearing}
 use Rattle.plain.specs.declared.Effect.{Effect}
-use Rattle.plain.specs.declared.Effect.the-variants.{Goes, Starts, Protects, Falls, Stays, Drops}
+use Rattle.plain.specs.declared.Effect.the-variants.{Starts, Stays, Drops}
 use Rattle.plain.specs.declared.Device.{Device}
-use Rattle.plain.specs.Choice.{if_then_else_}
-use Rattle.plain.specs.Cycles.{isAt, is, firstUnlock, secondUnlock, isDyb}
-use Rattle.plain.specs.Figures.{programTime, windowTime, eraseTime, recoveryTime, chipTime}
+use Rattle.plain.specs.Cycles.{is}
+use Rattle.plain.specs.Figures.{windowTime, eraseTime, recoveryTime}
 use Rattle.plain.specs.Lent.{Lent}
 use Rattle.plain.specs.Operations.{suspensionOf}
-use Rattle.plain.specs.Programs.{writing, blockWritten, raises}
 use Rattle.plain.specs.Record.{device, suspended}
-use Rattle.plain.specs.Commands.{programIsSuspended, isSuspended, resumes, keepsOut, started, begins, atGround, afterUnlock, afterUnlocked, afterA0, after80, after80Unlock, after80Unlocked, after48, after60, after68, after6060, afterReading, continued, entered, addBlock, inWindow, inSuspendedErase, written, effected}
-use Rattle.plain.specs.History.{Told, kind, dropped, unheard, enters, protects, beginsProgram, goesOn, hearsCycle, hears, wrote, gaveUp, turnedDown, wroteAs}
+use Rattle.plain.specs.Commands.{programIsSuspended, entered, addBlock, inWindow, unlessRuns, written, effected}
+use Rattle.plain.specs.History.{Told, kind, wrote, gaveUp, turnedDown, wroteAs}
 use Rattle.plain.specs.Holds.{Fact}
 use Rattle.plain.specs.History as told
-use Rattle.plain.proofs.Tools.{by-test, both-right, clash}
+use Rattle.plain.proofs.Tools.{by-test, clash}
 use Rattle.plain.proofs.Register.{standing}
 use Rattle.plain.proofs.SuspendedProgram.{Awake}
 use Rattle.history.proofs.Seen.{seenInside, seenOp, seen, none-gone}
+use Rattle.history.proofs.Heard.{For, stays, enters-told}
 
 module _ (p : Part) (fs : List Fact) (l : Lent) (a w : ℕ) (m : Meter) (bits : Protection) where
-  abbrev rec : Command → Operation → Device
-  rec c o = device m c o bits
-
   abbrev before : Command → Operation → Told
-  before c o = seen p (rec c o) fs
+  before c o = seen p (device m c o bits) fs
 
-  -- the effect of a write is told as it should be
-  pub record For (c : Command) (o : Operation) (x : Effect) : Type 0 where
-    pub tells : wroteAs p (before c o) (kind (effected (rec c o) x .refusal)) a w ≡ seen p (effected (rec c o) x .device) fs
+  abbrev TellsOf : Command → Operation → Effect → Type 0
+  TellsOf c o x = For p fs l a w m bits c o x
 
-  -- ---- the ends of a cycle, while nothing runs
+  -- ---- while nothing runs, and while a program does
 
-  abbrev In : Suspension → Command → Effect → Type 0
-  In s c x = For c (standing s) x
+  still-told : (s : Suspension) (c : Command) → programIsSuspended s ≡ false → TellsOf c (standing s) (entered p bits s c l a w)
+  still-told s c n = enters-told p fs l a w m bits s c n
 
-  abbrev heard : Suspension → Command → Told
-  heard s c = hears p (before c (standing s)) c a w
-
-  goes : (s : Suspension) (c d : Command) → heard s c ≡ enters (before c (standing s)) d → In s c (Goes d)
-  unfolding effected kind wroteAs wrote seenOp seenInside standing
-  goes Unsuspended c d e = record { tells = e }
-  goes (OfProgram q) c d e = record { tells = e }
-  goes (OfErase x) c d e = record { tells = e }
-
-  starts : (s : Suspension) (c : Command) (n : Operation) → heard s c ≡ told.begins (before c (standing s)) (seenOp p n) → In s c (Starts n)
-  unfolding effected kind wroteAs wrote seenOp seenInside standing
-  starts Unsuspended c n e = record { tells = e }
-  starts (OfProgram q) c n e = record { tells = e }
-  starts (OfErase x) c n e = record { tells = e }
-
-  guards : (s : Suspension) (c : Command) (b : Protection) → heard s c ≡ protects (before c (standing s)) (b .dyb) (b .ppb) → In s c (Protects b)
-  unfolding effected kind wroteAs wrote seenOp seenInside standing
-  guards Unsuspended c b e = record { tells = e }
-  guards (OfProgram q) c b e = record { tells = e }
-  guards (OfErase x) c b e = record { tells = e }
-
-  sequence : (s : Suspension) (c : Command) → In s c (Falls Sequence)
-  unfolding effected kind wroteAs gaveUp seenOp seenInside standing
-  sequence Unsuspended c = record { tells = refl }
-  sequence (OfProgram q) c = record { tells = refl }
-  sequence (OfErase x) c = record { tells = refl }
-
-  down : (s : Suspension) (c : Command) (n : Refusal) → kind n ≡ dropped → In s c (Falls n)
-  unfolding effected wroteAs turnedDown seenOp seenInside standing
-  down Unsuspended c n e = record { tells = rw e }
-  down (OfProgram q) c n e = record { tells = rw e }
-  down (OfErase x) c n e = record { tells = rw e }
-
-  stays : {c : Command} {o : Operation} → (n : Refusal) → kind n ≡ unheard → For c o (Stays n)
-  unfolding effected wroteAs
-  stays n e = record { tells = rw e }
-
-  unless-so : (s : Suspension) (c : Command) (b : Bool) (x : Effect) → In s c x → In s c (if b then Falls Suspended else x)
+  busy : {c : Command} {o : Operation} → TellsOf c o (Stays Busy)
   unfolding kind
-  unless-so s c true x f = down s c Suspended refl
-  unless-so s c false x f = f
+  busy = stays p fs l a w m bits Busy refl
 
-  -- F0H, or what else the cycle makes of the write
-  or-ground : (s : Suspension) (c : Command) (x : Effect) → (is w 0xF0 ≡ true → heard s c ≡ enters (before c (standing s)) Ground) → (is w 0xF0 ≡ false → In s c x)
-      → In s c (if is w 0xF0 then Goes Ground else x)
-  or-ground s c x f g = by-test (In s c) (is w 0xF0) (λ e. goes s c Ground (f e)) g
+  in-suspended : (c : Command) (e : Erase) (i : Inside) → TellsOf c (EraseSuspended (suspended e i)) (unlessRuns i (entered p bits (OfErase e) c l a w))
+  unfolding unlessRuns standing programIsSuspended
+  in-suspended c e Nothing = still-told (OfErase e) c refl
+  in-suspended c e (Runs q) = busy
 
-  low : (code : ℕ) → is w code ≡ true → w % 256 ≡ code
-  low code e = eqb-true (w % 256) code e
+  in-one-time : (c : Command) (i : Inside) → TellsOf c (InOneTime i) (unlessRuns i (entered p bits Entered c l a w))
+  unfolding unlessRuns standing programIsSuspended
+  in-one-time c Nothing = still-told Entered c refl
+  in-one-time c (Runs q) = busy
 
-  -- ---- operations that go on and start
+  -- ---- while an erase runs
 
-  -- of a suspended program nothing was told
-  resumes-told : (s : Suspension) → programIsSuspended s ≡ false → firstUnlock a w ≡ false → is w 0x30 ≡ true → In s Ground (resumes s)
-  unfolding programIsSuspended resumes hears goesOn seenOp seenInside standing
-  resumes-told Unsuspended n f e = sequence Unsuspended Ground
-  resumes-told (OfProgram q) n f e = clash refl n
-  resumes-told (OfErase x) n f e = starts (OfErase x) Ground _ (rw (f, e))
-
-  begins-told : (s : Suspension) → keepsOut p s (writing a w) ≡ false → In s (Entering ProgramData) (Starts (begins s (started p (writing a w))))
-  unfolding keepsOut begins hears hearsCycle beginsProgram seenOp seenInside standing
-  begins-told Unsuspended n = starts Unsuspended _ _ (rw (none-gone (programTime p)))
-  begins-told (OfProgram q) n = clash refl n
-  begins-told (OfErase x) n = starts (OfErase x) _ _ (rw (none-gone (programTime p)))
-
-  -- ---- the register's states
-
-  at-ground : (s : Suspension) → programIsSuspended s ≡ false → In s Ground (atGround s a w)
-  unfolding atGround hears
-  at-ground s n =
-      by-test (In s Ground) (firstUnlock a w) (λ e. goes s _ _ (rw e))
-      (λ e. or-ground s Ground _ (λ f. rw (e, low 0xF0 f)) (λ f. by-test (In s Ground) (is w 0x30) (λ g. resumes-told s n e g) (λ g. sequence s Ground)))
-
-  second : (s : Suspension) (c d : Command) → (secondUnlock a w ≡ true → heard s c ≡ enters (before c (standing s)) d) → (is w 0xF0 ≡ true → heard s c ≡ enters (before c (standing s)) Ground)
-      → In s c (if secondUnlock a w then Goes d else if is w 0xF0 then Goes Ground else Falls Sequence)
-  second s c d f g = by-test (In s c) (secondUnlock a w) (λ e. goes s c d (f e)) (λ e. or-ground s c _ g (λ h. sequence s c))
-
-  third : (s : Suspension) → In s (Entering Unlocked) (afterUnlocked p bits s a w)
-  unfolding afterUnlocked hears hearsCycle
-  third s =
-      let c = Entering Unlocked in
-      let F = In s c in
-      or-ground s c _ (λ e. rw (low 0xF0 e))
-      (λ e. by-test F (not (isAt a 0x555)) (λ f. sequence s c)
-      (λ f. by-test F (is w 0xA0) (λ g. unless-so s c (programIsSuspended s) _ (goes s c _ (rw (low 0xA0 g))))
-      (λ g. by-test F (is w 0x80) (λ h. unless-so s c (isSuspended s) _ (goes s c _ (rw (low 0x80 h))))
-      (λ h. by-test F (is w 0x90) (λ i. goes s c _ (rw (low 0x90 i)))
-      (λ i. by-test F (is w 0x58) (λ j. goes s c _ (rw (low 0x58 j)))
-      (λ j. by-test F (is w 0x48) (λ k. unless-so s c (isSuspended s) _ (goes s c _ (rw (low 0x48 k))))
-      (λ k. by-test F (is w 0x78) (λ n. unless-so s c (isSuspended s) _ (guards s c _ (rw (low 0x78 n))))
-      (λ n. by-test F (is w 0x60) (λ o. unless-so s c (isSuspended s) _ (goes s c _ (rw (low 0x60 o))))
-      (λ o. sequence s c)))))))))
-
-  data-told : (s : Suspension) → In s (Entering ProgramData) (afterA0 p bits s l a w)
-  unfolding afterA0 kind
-  data-told s =
-      let c = Entering ProgramData in
-      let F = In s c in
-      by-test F (protected bits (blockWritten p (writing a w))) (λ _. down s c Protected refl)
-      (λ _. by-test F (keepsOut p s (writing a w)) (λ _. down s c Suspended refl)
-      (λ n. by-test F (raises (writing a w) l) (λ _. down s c Raise refl) (λ _. begins-told s n)))
-
-  erase-told : (s : Suspension) → In s (Entering EraseUnlocked) (after80Unlocked p bits a w)
-  unfolding after80Unlocked hears hearsCycle kind seenOp unprotected
-  erase-told s =
-      let c = Entering EraseUnlocked in
-      let F = In s c in
-      or-ground s c _ (λ e. rw e)
-      (λ e. by-test F (isAt a 0x555 && is w 0x10)
-      (λ f. by-test F (allProtected p bits) (λ g. down s c Protected refl)
-      (λ g. starts s c _ (rw (low 0x10 (both-right (isAt a 0x555) (is w 0x10) f), none-gone (chipTime p)))))
-      (λ f. by-test F (is w 0x30)
-      (λ g. by-test F (protected bits (blockOf p a)) (λ h. down s c Protected refl) (λ h. starts s c _ (rw (low 0x30 g, none-gone (windowTime p)))))
-      (λ g. sequence s c)))
-
-  locks : (s : Suspension) (c : Command) (b : Protection) → heard s c ≡ protects (before c (standing s)) (b .dyb) (b .ppb) → In s c (if bits .lock then Falls Locked else Protects b)
-  unfolding kind
-  locks s c b e = by-test (In s c) (bits .lock) (λ _. down s c Locked refl) (λ _. guards s c b e)
-
-  cycle-told : (s : Suspension) (c : Cycle) → In s (Entering c) (continued p bits s c l a w)
-  unfolding continued afterUnlock after80 after80Unlock after48 after60 after68 after6060 hears hearsCycle kind
-  cycle-told s Unlock = second s _ _ (λ e. rw (low 0x55 (both-right (isAt a 0x2AA) (is w 0x55) e))) (λ e. rw e)
-  cycle-told s Unlocked = third s
-  cycle-told s ProgramData = data-told s
-  cycle-told s EraseSetup =
-      by-test (In s (Entering EraseSetup)) (firstUnlock a w) (λ e. goes s _ _ (rw (low 0xAA (both-right (isAt a 0x555) (is w 0xAA) e))))
-      (λ e. or-ground s _ _ (λ f. rw f) (λ f. sequence s _))
-  cycle-told s EraseUnlock = second s _ _ (λ e. rw (low 0x55 (both-right (isAt a 0x2AA) (is w 0x55) e))) (λ e. rw e)
-  cycle-told s EraseUnlocked = erase-told s
-  cycle-told s DybData =
-      by-test (In s (Entering DybData)) (isDyb w 1) (λ e. guards s _ _ (rw e))
-      (λ e. by-test (In s (Entering DybData)) (isDyb w 0) (λ f. guards s _ _ (rw e)) (λ f. sequence s _))
-  cycle-told s PpbSetup =
-      or-ground s _ _ (λ e. rw e)
-      (λ e. by-test (In s (Entering PpbSetup)) (is w 0x68) (λ f. goes s _ _ (rw (low 0x68 f)))
-      (λ f. by-test (In s (Entering PpbSetup)) (is w 0x60) (λ g. goes s _ _ (rw (low 0x60 g))) (λ g. sequence s _)))
-  cycle-told s (PpbSetting b) =
-      or-ground s _ _ (λ e. rw e)
-      (λ e. by-test (In s (Entering (PpbSetting b))) (is w 0x48 && eqb (blockOf p a) b) (λ f. locks s _ _ (rw e)) (λ f. sequence s _))
-  cycle-told s PpbClearing =
-      or-ground s _ _ (λ e. rw e) (λ e. by-test (In s (Entering PpbClearing)) (is w 0x40) (λ f. locks s _ _ (rw e)) (λ f. sequence s _))
-
-  enters-told : (s : Suspension) (c : Command) → programIsSuspended s ≡ false → In s c (entered p bits s c l a w)
-  unfolding entered afterReading hears
-  enters-told s Ground n = at-ground s n
-  enters-told s (Entering c) n = cycle-told s c
-  enters-told s (Reads r) n = or-ground s (Reads r) _ (λ e. refl) (λ e. sequence s (Reads r))
-
-  -- ---- while something runs
-
-  runs-on : {c : Command} {o : Operation} (n : Operation) → wrote p (before c o) (seenOp p o) a w ≡ told.begins (before c o) (seenOp p n) → For c o (Starts n)
+  runs-on : {c : Command} {o : Operation} (n : Operation) → wrote p (before c o) (seenOp p o) a w ≡ told.begins (before c o) (seenOp p n) → TellsOf c o (Starts n)
   unfolding effected kind wroteAs
   runs-on n e = record { tells = e }
 
-  window-down : {c : Command} {e : Erase} → For c (Window e) (Stays Protected)
+  window-down : {c : Command} {e : Erase} → TellsOf c (Window e) (Stays Protected)
   unfolding effected kind wroteAs turnedDown seenOp
   window-down = record { tells = refl }
 
-  window-drops : {c : Command} {e : Erase} → For c (Window e) Drops
+  window-drops : {c : Command} {e : Erase} → TellsOf c (Window e) Drops
   unfolding effected kind wroteAs gaveUp seenOp
   window-drops = record { tells = refl }
 
-  in-window : (c : Command) (e : Erase) → For c (Window e) (inWindow p bits e a w)
+  in-window : (c : Command) (e : Erase) → TellsOf c (Window e) (inWindow p bits e a w)
   unfolding inWindow addBlock wrote kind seenOp seenInside
   in-window c e =
-      by-test (For c (Window e)) (is w 0x30)
-      (λ f. by-test (For c (Window e)) (not (eqb (bankOf p a) (bankOfBlock p (e .hand)))) (λ g. stays Bank refl)
-      (λ g. by-test (For c (Window e)) (protected bits (blockOf p a)) (λ h. window-down) (λ h. runs-on _ (rw (f, none-gone (windowTime p))))))
-      (λ f. by-test (For c (Window e)) (is w 0xB0) (λ g. runs-on _ (rw (f, none-gone (eraseTime p)))) (λ g. window-drops))
+      by-test (TellsOf c (Window e)) (is w 0x30)
+      (λ f. by-test (TellsOf c (Window e)) (not (eqb (bankOf p a) (bankOfBlock p (e .hand)))) (λ g. stays p fs l a w m bits Bank refl)
+      (λ g. by-test (TellsOf c (Window e)) (protected bits (blockOf p a)) (λ h. window-down) (λ h. runs-on _ (rw (f, none-gone (windowTime p))))))
+      (λ f. by-test (TellsOf c (Window e)) (is w 0xB0) (λ g. runs-on _ (rw (f, none-gone (eraseTime p)))) (λ g. window-drops))
 
-  in-suspended : (c : Command) (e : Erase) (i : Inside) → For c (EraseSuspended (suspended e i)) (inSuspendedErase i (entered p bits (OfErase e) c l a w))
-  unfolding inSuspendedErase kind standing programIsSuspended
-  in-suspended c e Nothing = enters-told (OfErase e) c refl
-  in-suspended c e (Runs q) = stays Busy refl
+  -- ---- any write
 
-  written-told : (c : Command) (o : Operation) → Awake o → For c o (written p bits o c l a w)
-  unfolding written wrote kind seenOp seenInside standing suspensionOf programIsSuspended
-  written-told c Idle n = enters-told Unsuspended c refl
-  written-told c (Programming q) n = stays Busy refl
+  written-told : (c : Command) (o : Operation) → Awake o → TellsOf c o (written p bits o c l a w)
+  unfolding written wrote seenOp seenInside standing suspensionOf programIsSuspended
+  written-told c Idle n = still-told Unsuspended c refl
+  written-told c (Programming q) n = busy
   written-told c (ProgramSuspended q) n = clash refl n
   written-told c (Window e) n = in-window c e
-  written-told c (Erasing x) n = by-test (For c (Erasing x)) (is w 0xB0) (λ e. runs-on _ (rw (none-gone (recoveryTime p)))) (λ e. stays Busy refl)
-  written-told c (Recovering x) n = stays Busy refl
+  written-told c (Erasing x) n = by-test (TellsOf c (Erasing x)) (is w 0xB0) (λ e. runs-on _ (rw (none-gone (recoveryTime p)))) (λ e. busy)
+  written-told c (Recovering x) n = busy
   written-told c (EraseSuspended s) n = in-suspended c (s .erase) (s .inside)
-  written-told c (ChipErasing e) n = stays Busy refl
+  written-told c (ChipErasing e) n = busy
+  written-told c (InOneTime i) n = in-one-time c i
 
 -- a write on any record that holds no suspended program
 pub write-told : (p : Part) (fs : List Fact) (l : Lent) (a w : ℕ) (r : Device) → Awake (r .operation)

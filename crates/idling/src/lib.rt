@@ -1,5 +1,5 @@
-// Events on an idle device, at ground with nothing that runs or is suspended: what an emulator asks most; and whether it is
-// sound. They read the few words that matter and leave the others where they are.
+// Events on an idle device, at ground with nothing that runs or is suspended and the one-time block not entered: what an emulator
+// asks most; and whether it is sound. They read the few words that matter and leave the others where they are.
 ghost use mathlib.Core.Path.{_≡_};
 ghost use mathlib.Core.Bool.{true};
 ghost use Rattle.layout.specs.Image.{idleWords};
@@ -14,12 +14,12 @@ use plain::Entry;
 use plain::Refusal;
 use plain::figures;
 
-pub fn read(part: u64, words: &[u64], cells: &[u16], address: usize) -> u64
+pub fn read(part: u64, words: &[u64], cells: &[u16], otp: &[u16], address: usize) -> u64
     requires { ⌜ idleWords (now words) ≡ true ⌝ }
-    ensures { λ r. ⌜ r ≡ packed (faceRead part (now (words .entry)) (now (cells .entry)) address) ⌝ }
-    ensures { λ r. ⌜ faceRead part (now (words .entry)) (now (cells .entry)) address .image ≡ now (words .entry) ⌝ }
+    ensures { λ r. ⌜ r ≡ packed (faceRead part (now (words .entry)) (now (cells .entry)) (now (otp .entry)) address) ⌝ }
+    ensures { λ r. ⌜ faceRead part (now (words .entry)) (now (cells .entry)) (now (otp .entry)) address .image ≡ now (words .entry) ⌝ }
 {
-    let entry = entry(part, words, cells);
+    let entry = entry(part, words, cells, otp);
     match entry {
         Entry::Barred(refusal) => calls::packed(refusal, 0),
         Entry::Admitted => {
@@ -32,12 +32,19 @@ pub fn read(part: u64, words: &[u64], cells: &[u16], address: usize) -> u64
 }
 
 // "F0H returns to ground", where it stands; the first unlock write goes on, any other write is SEQUENCE.
-pub fn write(part: u64, words: &mut [u64], cells: &[u16], address: usize, word: u16) -> u64
+pub fn write(
+    part: u64,
+    words: &mut [u64],
+    cells: &[u16],
+    otp: &[u16],
+    address: usize,
+    word: u16,
+) -> u64
     requires { ⌜ idleWords (now words) ≡ true ⌝ }
-    ensures { λ r. ⌜ r ≡ faceWrite part (now (words .entry)) (now (cells .entry)) address word .refusal ⌝ }
-    ensures { λ r. ⌜ now (words .exit) ≡ faceWrite part (now (words .entry)) (now (cells .entry)) address word .image ⌝ }
+    ensures { λ r. ⌜ r ≡ faceWrite part (now (words .entry)) (now (cells .entry)) (now (otp .entry)) address word .refusal ⌝ }
+    ensures { λ r. ⌜ now (words .exit) ≡ faceWrite part (now (words .entry)) (now (cells .entry)) (now (otp .entry)) address word .image ⌝ }
 {
-    let entry = entry(part, words, cells);
+    let entry = entry(part, words, cells, otp);
     match entry {
         Entry::Barred(refusal) => answers::number_of(refusal),
         Entry::Admitted => {
@@ -57,13 +64,14 @@ pub fn write(part: u64, words: &mut [u64], cells: &[u16], address: usize, word: 
 }
 
 // Only the meter moves.
-pub fn wait(part: u64, words: &mut [u64], cells: &[u16], microseconds: u64) -> u64
+pub fn wait(part: u64, words: &mut [u64], cells: &[u16], otp: &[u16], microseconds: u64) -> u64
     requires { ⌜ idleWords (now words) ≡ true ⌝ }
-    ensures { λ r. ⌜ r ≡ faceWait part (now (words .entry)) (now (cells .entry)) microseconds .refusal ⌝ }
-    ensures { λ r. ⌜ now (words .exit) ≡ faceWait part (now (words .entry)) (now (cells .entry)) microseconds .image ⌝ }
-    ensures { λ r. ⌜ faceWait part (now (words .entry)) (now (cells .entry)) microseconds .cells ≡ now (cells .entry) ⌝ }
+    ensures { λ r. ⌜ r ≡ faceWait part (now (words .entry)) (now (cells .entry)) (now (otp .entry)) microseconds .refusal ⌝ }
+    ensures { λ r. ⌜ now (words .exit) ≡ faceWait part (now (words .entry)) (now (cells .entry)) (now (otp .entry)) microseconds .image ⌝ }
+    ensures { λ r. ⌜ faceWait part (now (words .entry)) (now (cells .entry)) (now (otp .entry)) microseconds .cells ≡ now (cells .entry) ⌝ }
+    ensures { λ r. ⌜ faceWait part (now (words .entry)) (now (cells .entry)) (now (otp .entry)) microseconds .otp ≡ now (otp .entry) ⌝ }
 {
-    let entry = entry(part, words, cells);
+    let entry = entry(part, words, cells, otp);
     match entry {
         Entry::Barred(refusal) => answers::number_of(refusal),
         Entry::Admitted => {
@@ -79,15 +87,18 @@ pub fn wait(part: u64, words: &mut [u64], cells: &[u16], microseconds: u64) -> u
     }
 }
 
-// The checks that every event begins with: STATE, then CELLS.
-fn entry(part: u64, words: &[u64], cells: &[u16]) -> Entry
+// The checks that every event begins with: STATE, then CELLS, of either array.
+fn entry(part: u64, words: &[u64], cells: &[u16], otp: &[u16]) -> Entry
     requires { ⌜ idleWords (now words) ≡ true ⌝ }
-    ensures { λ r. ⌜ r ≡ faceEntry part (now (words .entry)) (now (cells .entry)) ⌝ }
+    ensures { λ r. ⌜ r ≡ faceEntry part (now (words .entry)) (now (cells .entry)) (now (otp .entry)) ⌝ }
 {
     if !is_sound(part, words) {
         return Entry::Barred(Refusal::State);
     }
     if cells.len() != calls::part_named(part).words() {
+        return Entry::Barred(Refusal::Cells);
+    }
+    if otp.len() != figures::OTP_WORDS {
         return Entry::Barred(Refusal::Cells);
     }
     Entry::Admitted

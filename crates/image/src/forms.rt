@@ -4,14 +4,14 @@ ghost use lib.ListN.{length};
 ghost use Rattle.layout.specs.Places.{recordWords};
 ghost use Rattle.layout.specs.Commands.{beside, commandFits};
 ghost use Rattle.layout.specs.Operations.{programs};
-ghost use Rattle.layout.specs.Image.{eraseFits, programFits, operationFits, recoveryFits};
+ghost use Rattle.layout.specs.Image.{eraseFits, programFits, operationFits, recoveryFits, enteredFits};
 use crate::sections;
 
 // Is there a command of that number, and does it have a place if one is told?
 pub fn command_fits(number: u64, place: u64) -> bool
     ensures { λ r. ⌜ r ≡ commandFits (beside number place) ⌝ }
 {
-    if 13 <= number {
+    if 15 <= number {
         return false;
     }
     if number == 9 {
@@ -45,6 +45,17 @@ pub fn recovery_fits(words: &[u64]) -> bool
         return true;
     }
     words[layout::RECOVERY_AT] == 0
+}
+
+// The one-time block is entered with nothing or a program, and nothing else.
+pub fn entered_fits(words: &[u64]) -> bool
+    requires { ⌜ length (now words) ≡ recordWords ⌝ }
+    ensures { λ r. ⌜ r ≡ enteredFits (now (words .entry)) ⌝ }
+{
+    if words[layout::OPERATION_AT] < 2 {
+        return words[layout::ENTERED_AT] < 2;
+    }
+    words[layout::ENTERED_AT] == 0
 }
 
 fn erase_fits(words: &[u64]) -> bool

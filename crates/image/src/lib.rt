@@ -10,7 +10,6 @@ mod sections;
 
 use meter::Meter;
 use numbers::commands;
-use numbers::operations;
 use plain::Device;
 use protection::Protection;
 
@@ -27,7 +26,10 @@ pub fn is_well_formed(words: &[u64]) -> bool
     if !forms::operation_fits(words) {
         return false;
     }
-    forms::recovery_fits(words)
+    if !forms::recovery_fits(words) {
+        return false;
+    }
+    forms::entered_fits(words)
 }
 
 // Do they stand for an idle device? It is asked first at each event, as the most common case.
@@ -44,10 +46,10 @@ pub fn is_idle(words: &[u64]) -> bool
     if !sections::are_unused(words, layout::LIST_AT, layout::DYB_AT) {
         return false;
     }
-    words[layout::RECOVERY_AT] == 0
+    sections::are_unused(words, layout::RECOVERY_AT, layout::SEALED_AT)
 }
 
-// As many words as a record has, with the layout's number, and one bit for the lock.
+// As many words as a record has, with the layout's number, and one bit for each lock.
 fn is_marked(words: &[u64]) -> bool
     ensures { λ r. ⌜ r ≡ marked (now (words .entry)) ⌝ }
 {
@@ -57,7 +59,10 @@ fn is_marked(words: &[u64]) -> bool
     if words[layout::LAYOUT_AT] != layout::LAYOUT {
         return false;
     }
-    words[layout::LOCK_AT] < 2
+    if 2 <= words[layout::LOCK_AT] {
+        return false;
+    }
+    words[layout::SEALED_AT] < 2
 }
 
 pub fn device_of(words: &[u64]) -> Device
@@ -66,12 +71,14 @@ pub fn device_of(words: &[u64]) -> Device
 {
     let command = commands::command_of(words[layout::COMMAND_AT], words[layout::PLACE_AT]);
     let erase = parts::erase_of(words);
-    let program = parts::program_of(words);
-    let operation = operations::operation_of(
+    let entered = words[layout::ENTERED_AT] == 1;
+    let program = parts::program_of(words, entered);
+    let operation = numbers::operations::operation_of(
         words[layout::OPERATION_AT],
         erase,
         program,
         words[layout::RECOVERY_AT],
+        entered,
     );
     let meter = meter_of(words);
     let bits = bits_of(words);
@@ -103,5 +110,6 @@ pub fn bits_of(words: &[u64]) -> Protection
         dyb: dyb,
         ppb: ppb,
         lock: words[layout::LOCK_AT] == 1,
+        sealed: words[layout::SEALED_AT] == 1,
     }
 }

@@ -2,10 +2,11 @@
 ghost use mathlib.Core.Path.{_≡_};
 ghost use lib.ListN.{length};
 ghost use Rattle.layout.specs.Places.{recordWords};
-ghost use Rattle.layout.specs.Image.{eraseOf, programOf};
+ghost use Rattle.layout.specs.Image.{eraseOf, mode, programOf};
 use crate::sections;
 use plain::Erase;
 use plain::Program;
+use plain::Suspension;
 use plain::Written;
 
 pub fn erase_of(words: &[u64]) -> Erase
@@ -23,16 +24,29 @@ pub fn erase_of(words: &[u64]) -> Erase
     }
 }
 
-pub fn program_of(words: &[u64]) -> Program
+// No word tells the array of a program: its address selects it.
+pub fn program_of(words: &[u64], entered: bool) -> Program
     requires { ⌜ length (now words) ≡ recordWords ⌝ }
-    ensures { λ r. ⌜ r ≡ programOf (now (words .entry)) ⌝ }
+    ensures { λ r. ⌜ r ≡ programOf entered (now (words .entry)) ⌝ }
 {
+    let at = words[layout::ADDRESS_AT] as usize;
+    let array = operations::selected(mode(entered), at);
     Program {
         writes: Written {
-            at: words[layout::ADDRESS_AT] as usize,
+            array: array,
+            at: at,
             word: (words[layout::DATA_AT] % 65536) as u16,
         },
         left: words[layout::PROGRAM_LEFT_AT],
         dq6: words[layout::TOGGLE_AT] == 1,
     }
+}
+
+fn mode(entered: bool) -> Suspension
+    ensures { λ r. ⌜ r ≡ mode entered ⌝ }
+{
+    if entered {
+        return Suspension::Entered;
+    }
+    Suspension::Unsuspended
 }

@@ -1,8 +1,9 @@
--- What people ask of a device besides its four events.
+-- What people ask of a device besides its events.
 use Prim.Native.Nat.{ℕ}
 use mathlib.Core.Bool.{Bool, _&&_}
 use Rattle.geometry.specs.declared.Part.{Part}
 use Rattle.plain.specs.declared.Place.the-variants.{Nowhere}
+use Rattle.plain.specs.declared.Spot.the-variants.{NoWord}
 use Rattle.plain.specs.declared.Device.{Device}
 use Rattle.plain.specs.Choice.{if_then_else_}
 use Rattle.plain.specs.Sound.{sound}
@@ -13,9 +14,9 @@ use Rattle.mapping.specs.Mapped.{givesCells}
 -- ---- "when the pack runs flat during a firmware update, which words of the flash may have changed"
 
 abbrev pub noneExposed : Exposed
-noneExposed = record { block = Nowhere; word = Nowhere }
+noneExposed = record { block = Nowhere; word = NoWord }
 
--- the block whose erase has begun and the word whose program has begun; an unsound record refuses every cut
+-- the block whose erase has begun and the word, of either array, whose program has begun; an unsound record refuses every cut
 unfoldable pub exposedNow : Part → Device → Exposed
 exposedNow p r =
     if sound p r then exposedBy p (r .operation) else noneExposed

@@ -22,7 +22,7 @@ pub fn until_end(part: Part, device: Device) -> Figure
     Figure::Known(remaining::until_end(part, operation))
 }
 
-// What the device does next by itself: when, and at which word or block.
+// What the device does next by itself: when, and at which word of which array or at which block.
 pub fn until_change(part: Part, device: Device) -> Change
     ensures { λ r. ⌜ r ≡ changeNow part device ⌝ }
 {

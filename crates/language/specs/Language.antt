@@ -14,7 +14,9 @@ pub data Meaning : Type 0 where
   write : (address word : ℕ) → Meaning
   wait : (microseconds : ℕ) → Meaning
   cut : (debris : List ℕ) → Meaning
+  range : (first count : ℕ) → Meaning
   cell : (address : ℕ) (words : List ℕ) → Meaning
+  otp : (address : ℕ) (words : List ℕ) → Meaning
   fresh : Meaning
 
 -- ---- lines and items
@@ -132,26 +134,26 @@ oneFigure meaning [] = malformed
 oneFigure meaning (a ∷ []) = asked meaning (figure a)
 oneFigure meaning (a ∷ b ∷ items) = malformed
 
--- `write A W`
-abbrev pub writeLine : (items : List (List ℕ)) → Meaning
-writeLine [] = malformed
-writeLine (a ∷ []) = malformed
-writeLine (a ∷ w ∷ []) = asked (λ address. asked (write address) (word w)) (figure a)
-writeLine (a ∷ w ∷ x ∷ items) = malformed
+-- `write A W`, `range A N`, by what the second number is
+abbrev pub twoNumbers : (ℕ → ℕ → Meaning) → (second : (bytes : List ℕ) → Value) → (items : List (List ℕ)) → Meaning
+twoNumbers meaning second [] = malformed
+twoNumbers meaning second (a ∷ []) = malformed
+twoNumbers meaning second (a ∷ b ∷ []) = asked (λ address. asked (meaning address) (second b)) (figure a)
+twoNumbers meaning second (a ∷ b ∷ x ∷ items) = malformed
 
 -- `cut W..`: no part of the die has more than 16384 words of debris to take, and what is over is ignored
 abbrev pub cutOf : Listed → Meaning
 cutOf wrong = malformed
 cutOf (these debris) = cut (take 16384 debris)
 
--- `cell A W..`: the cells are those of the part
-abbrev pub cellOf : (address : ℕ) → Listed → Meaning
-cellOf address wrong = malformed
-cellOf address (these cells) = if leb (address + length cells) 16384 then cell address cells else malformed
+-- `cell A W..`, `otp A W..`, by how many words there are to set
+abbrev pub setOf : (ℕ → List ℕ → Meaning) → (size address : ℕ) → Listed → Meaning
+setOf meaning size address wrong = malformed
+setOf meaning size address (these set) = if leb (address + length set) size then meaning address set else malformed
 
-abbrev pub cellLine : (items : List (List ℕ)) → Meaning
-cellLine [] = malformed
-cellLine (a ∷ items) = asked (λ address. cellOf address (words items)) (figure a)
+abbrev pub setLine : (ℕ → List ℕ → Meaning) → (size : ℕ) (items : List (List ℕ)) → Meaning
+setLine meaning size [] = malformed
+setLine meaning size (a ∷ items) = asked (λ address. setOf meaning size address (words items)) (figure a)
 
 abbrev pub freshLine : (items : List (List ℕ)) → Meaning
 freshLine [] = fresh
@@ -170,8 +172,14 @@ waitWord = 119 ∷ 97 ∷ 105 ∷ 116 ∷ []
 abbrev pub cutWord : List ℕ
 cutWord = 99 ∷ 117 ∷ 116 ∷ []
 
+abbrev pub rangeWord : List ℕ
+rangeWord = 114 ∷ 97 ∷ 110 ∷ 103 ∷ 101 ∷ []
+
 abbrev pub cellWord : List ℕ
 cellWord = 99 ∷ 101 ∷ 108 ∷ 108 ∷ []
+
+abbrev pub otpWord : List ℕ
+otpWord = 111 ∷ 116 ∷ 112 ∷ []
 
 abbrev pub freshWord : List ℕ
 freshWord = 102 ∷ 114 ∷ 101 ∷ 115 ∷ 104 ∷ []
@@ -182,10 +190,12 @@ means [] = nothing
 means (verb ∷ items) =
     if isRemark verb then nothing
     else if same verb readWord then oneFigure read items
-    else if same verb writeWord then writeLine items
+    else if same verb writeWord then twoNumbers write word items
     else if same verb waitWord then oneFigure wait items
     else if same verb cutWord then cutOf (words items)
-    else if same verb cellWord then cellLine items
+    else if same verb rangeWord then twoNumbers range figure items
+    else if same verb cellWord then setLine cell 16384 items
+    else if same verb otpWord then setLine otp 256 items
     else if same verb freshWord then freshLine items
     else malformed
 

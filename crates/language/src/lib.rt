@@ -17,7 +17,11 @@ pub enum Order {
     Wait(u64),
     // The debris is the first so many of the lent words.
     Cut(usize),
+    // The first address, and how many words.
+    Range(usize, usize),
     // The cells from an address on become the first so many of the lent words.
     Cell(usize, usize),
+    // And so the one-time words.
+    Otp(usize, usize),
     Fresh,
 }

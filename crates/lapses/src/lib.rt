@@ -6,16 +6,23 @@ use elapsed::Lapse;
 use plain::Entry;
 use plain::Refusal;
 
-pub fn wait(part: u64, words: &mut [u64], cells: &mut [u16], microseconds: u64) -> u64
-    ensures { λ r. ⌜ r ≡ faceWait part (now (words .entry)) (now (cells .entry)) microseconds .refusal ⌝ }
-    ensures { λ r. ⌜ now (words .exit) ≡ faceWait part (now (words .entry)) (now (cells .entry)) microseconds .image ⌝ }
-    ensures { λ r. ⌜ now (cells .exit) ≡ faceWait part (now (words .entry)) (now (cells .entry)) microseconds .cells ⌝ }
+pub fn wait(
+    part: u64,
+    words: &mut [u64],
+    cells: &mut [u16],
+    otp: &mut [u16],
+    microseconds: u64,
+) -> u64
+    ensures { λ r. ⌜ r ≡ faceWait part (now (words .entry)) (now (cells .entry)) (now (otp .entry)) microseconds .refusal ⌝ }
+    ensures { λ r. ⌜ now (words .exit) ≡ faceWait part (now (words .entry)) (now (cells .entry)) (now (otp .entry)) microseconds .image ⌝ }
+    ensures { λ r. ⌜ now (cells .exit) ≡ faceWait part (now (words .entry)) (now (cells .entry)) (now (otp .entry)) microseconds .cells ⌝ }
+    ensures { λ r. ⌜ now (otp .exit) ≡ faceWait part (now (words .entry)) (now (cells .entry)) (now (otp .entry)) microseconds .otp ⌝ }
 {
     if !calls::stands(part, words) {
         return answers::number_of(Refusal::State);
     }
     let device = image::device_of(words);
-    let lapse = elapsed::wait(calls::part_named(part), device, cells, microseconds);
+    let lapse = elapsed::wait(calls::part_named(part), device, cells, otp, microseconds);
     match lapse {
         Lapse::Refused(refusal) => answers::number_of(refusal),
         Lapse::Passed(moved) => {
@@ -25,16 +32,17 @@ pub fn wait(part: u64, words: &mut [u64], cells: &mut [u16], microseconds: u64) 
     }
 }
 
-pub fn cut(part: u64, words: &mut [u64], cells: &mut [u16], debris: &[u16]) -> u64
-    ensures { λ r. ⌜ r ≡ faceCut part (now (words .entry)) (now (cells .entry)) (now (debris .entry)) .refusal ⌝ }
-    ensures { λ r. ⌜ now (words .exit) ≡ faceCut part (now (words .entry)) (now (cells .entry)) (now (debris .entry)) .image ⌝ }
-    ensures { λ r. ⌜ now (cells .exit) ≡ faceCut part (now (words .entry)) (now (cells .entry)) (now (debris .entry)) .cells ⌝ }
+pub fn cut(part: u64, words: &mut [u64], cells: &mut [u16], otp: &mut [u16], debris: &[u16]) -> u64
+    ensures { λ r. ⌜ r ≡ faceCut part (now (words .entry)) (now (cells .entry)) (now (otp .entry)) (now (debris .entry)) .refusal ⌝ }
+    ensures { λ r. ⌜ now (words .exit) ≡ faceCut part (now (words .entry)) (now (cells .entry)) (now (otp .entry)) (now (debris .entry)) .image ⌝ }
+    ensures { λ r. ⌜ now (cells .exit) ≡ faceCut part (now (words .entry)) (now (cells .entry)) (now (otp .entry)) (now (debris .entry)) .cells ⌝ }
+    ensures { λ r. ⌜ now (otp .exit) ≡ faceCut part (now (words .entry)) (now (cells .entry)) (now (otp .entry)) (now (debris .entry)) .otp ⌝ }
 {
     if !calls::stands(part, words) {
         return answers::number_of(Refusal::State);
     }
     let device = image::device_of(words);
-    let entry = elapsed::cut(calls::part_named(part), device, cells, debris);
+    let entry = elapsed::cut(calls::part_named(part), device, cells, otp, debris);
     match entry {
         Entry::Barred(refusal) => answers::number_of(refusal),
         Entry::Admitted => {

@@ -7,9 +7,9 @@ use borrow.Author.Tests.{eqb-true}
 use Rattle.plain.specs.declared.Command.{Command}
 use Rattle.plain.specs.declared.Command.the-variants.{Ground, Entering, Reads}
 use Rattle.plain.specs.declared.Cycle.{Cycle}
-use Rattle.plain.specs.declared.Cycle.the-variants.{Unlock, Unlocked, ProgramData, EraseSetup, EraseUnlock, EraseUnlocked, DybData, PpbSetup, PpbSetting, PpbClearing}
+use Rattle.plain.specs.declared.Cycle.the-variants.{Unlock, Unlocked, ProgramData, EraseSetup, EraseUnlock, EraseUnlocked, DybData, PpbSetup, PpbSetting, PpbClearing, OtpLocking}
 use Rattle.plain.specs.declared.Reading.{Reading}
-use Rattle.plain.specs.declared.Reading.the-variants.{Identity, Dybs}
+use Rattle.plain.specs.declared.Reading.the-variants.{Identity, Dybs, OtpLock}
 use Rattle.plain.proofs.Tools.{both-left}
 use Rattle.layout.specs.declared.CommandWords.{CommandWords}
 use Rattle.layout.specs.Commands.{beside, alone, cycleWords, readingWords, commandWords, commandFits, cycleOf, commandOf}
@@ -33,11 +33,13 @@ cycle-told DybData = record { fits = refl; back = refl }
 cycle-told PpbSetup = record { fits = refl; back = refl }
 cycle-told (PpbSetting block) = record { fits = refl; back = refl }
 cycle-told PpbClearing = record { fits = refl; back = refl }
+cycle-told OtpLocking = record { fits = refl; back = refl }
 
 reading-told : (g : Reading) → Told (Reads g)
 unfolding commandWords readingWords commandFits commandOf
 reading-told (Identity bank) = record { fits = refl; back = refl }
 reading-told Dybs = record { fits = refl; back = refl }
+reading-told OtpLock = record { fits = refl; back = refl }
 
 pub command-told : (c : Command) → Told c
 unfolding commandWords commandFits commandOf
@@ -53,9 +55,9 @@ Back n = (b : ℕ) → commandFits (beside n b) ≡ true → commandWords (comma
 placeless : (n b : ℕ) → eqb b 0 ≡ true → alone n ≡ beside n b
 placeless n b h = ap (beside n) (sym (eqb-true b 0 h))
 
-backs : (n : ℕ) → ltb n 13 ≡ true → Back n
+backs : (n : ℕ) → ltb n 15 ≡ true → Back n
 unfolding commandWords cycleWords readingWords commandFits commandOf cycleOf
-backs = each 13 Back (
+backs = each 15 Back (
   placeless 0,
   (
     placeless 1,
@@ -73,7 +75,7 @@ backs = each 13 Back (
                 placeless 7,
                 (
                   placeless 8,
-                  ((λ b h. refl), (placeless 10, ((λ b h. refl), (placeless 12, tt)))),
+                  ((λ b h. refl), (placeless 10, ((λ b h. refl), (placeless 12, (placeless 13, (placeless 14, tt)))))),
                 ),
               ),
             ),
@@ -86,4 +88,4 @@ backs = each 13 Back (
 
 pub command-back : (c : CommandWords) → commandFits c ≡ true → commandWords (commandOf c) ≡ c
 unfolding commandFits
-command-back c h = backs (c .number) (both-left (ltb (c .number) 13) _ h) (c .place) h
+command-back c h = backs (c .number) (both-left (ltb (c .number) 15) _ h) (c .place) h

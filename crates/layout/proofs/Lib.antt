@@ -7,3 +7,4 @@ pub mod Carried
 pub mod Idle
 pub mod Stored
 pub mod Toggles
+pub mod Arrays

@@ -45,7 +45,7 @@ module _ (i : List ℕ) where
 abbrev pub retoggled : OperationParts → OperationParts → OperationParts
 retoggled x y =
     partsWith (x .number) (erase (x .erase .list) (x .erase .hand) (x .erase .left) (y .erase .dq6) (y .erase .dq2))
-    (program (x .program .writes) (x .program .left) (y .program .dq6)) (x .recovery)
+    (program (x .program .writes) (x .program .left) (y .program .dq6)) (x .recovery) (x .entered)
 
 module _ (i : List ℕ) (well : wellFormed i ≡ true) where
   over : (store : List ℕ → List ℕ) (r : Device) → store (imageOf (deviceOf i)) ≡ imageOf r → store i ≡ imageOf r

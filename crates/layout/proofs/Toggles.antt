@@ -1,21 +1,20 @@
 -- A read leaves of an operation all but its toggles.
 use Prim.Native.Nat.{ℕ}
 use mathlib.Core.Path.{_≡_, refl}
-use mathlib.Core.Bool.{not}
 use Rattle.geometry.specs.declared.Part.{Part}
 use Rattle.protection.specs.declared.Protection.{Protection}
 use Rattle.plain.specs.declared.Erase.{Erase}
 use Rattle.plain.specs.declared.Inside.{Inside}
 use Rattle.plain.specs.declared.Inside.the-variants.{Nothing, Runs}
 use Rattle.plain.specs.declared.Operation.{Operation}
-use Rattle.plain.specs.declared.Operation.the-variants.{Idle, Programming, ProgramSuspended, Window, Erasing, Recovering, EraseSuspended, ChipErasing}
+use Rattle.plain.specs.declared.Operation.the-variants.{Idle, Programming, ProgramSuspended, Window, Erasing, Recovering, EraseSuspended, ChipErasing, InOneTime}
 use Rattle.plain.specs.declared.Command.{Command}
 use Rattle.plain.specs.declared.Seen.{Seen}
 use Rattle.plain.specs.Lent.{Lent}
 use Rattle.plain.specs.Operations.{runningOf, suspensionOf}
 use Rattle.plain.specs.Status.{polls, insidePolled, polled, readingOn, rests, rested, look}
 use Rattle.plain.proofs.Tools.{by-test}
-use Rattle.layout.specs.Operations.{suspendedParts, operationParts}
+use Rattle.layout.specs.Operations.{suspendedParts, enteredParts, operationParts}
 use Rattle.layout.proofs.Stored.{retoggled}
 
 -- is the one operation the other, but for the toggles?
@@ -27,6 +26,11 @@ unfolding suspendedParts
 inside-same e Nothing = refl
 inside-same e (Runs q) = refl
 
+entered-same : (x : Inside) → retoggled (enteredParts x) (enteredParts x) ≡ enteredParts x
+unfolding enteredParts
+entered-same Nothing = refl
+entered-same (Runs q) = refl
+
 pub same : (o : Operation) → Retoggled o o
 unfolding operationParts
 same Idle = refl
@@ -37,11 +41,17 @@ same (Erasing e) = refl
 same (Recovering r) = refl
 same (EraseSuspended s) = inside-same (s .erase) (s .inside)
 same (ChipErasing e) = refl
+same (InOneTime i) = entered-same i
 
 inside-flips : (e : Erase) (x : Inside) → retoggled (suspendedParts e x) (suspendedParts e (insidePolled x)) ≡ suspendedParts e (insidePolled x)
 unfolding suspendedParts insidePolled
 inside-flips e Nothing = refl
 inside-flips e (Runs q) = refl
+
+entered-flips : (x : Inside) → retoggled (enteredParts x) (enteredParts (insidePolled x)) ≡ enteredParts (insidePolled x)
+unfolding enteredParts insidePolled
+entered-flips Nothing = refl
+entered-flips (Runs q) = refl
 
 poll-flips : (p : Part) (o : Operation) (a : ℕ) → Retoggled o (polled p o a)
 unfolding operationParts polled
@@ -53,6 +63,7 @@ poll-flips p (Erasing e) a = refl
 poll-flips p (Recovering r) a = refl
 poll-flips p (EraseSuspended s) a = inside-flips (s .erase) (s .inside)
 poll-flips p (ChipErasing e) a = refl
+poll-flips p (InOneTime i) a = entered-flips i
 
 outside-flips : (e f : Erase) (x : Inside) → f .list ≡ e .list → f .hand ≡ e .hand → f .left ≡ e .left
     → retoggled (suspendedParts e x) (suspendedParts f x) ≡ suspendedParts f x
@@ -70,6 +81,7 @@ rest-flips (Erasing e) = refl
 rest-flips (Recovering r) = refl
 rest-flips (EraseSuspended s) = outside-flips (s .erase) _ (s .inside) refl refl refl
 rest-flips (ChipErasing e) = refl
+rest-flips (InOneTime i) = entered-same i
 
 pub look-flips : (p : Part) (bits : Protection) (c : Command) (o : Operation) (l : Lent) (a : ℕ) → Retoggled o (look p bits c o l a .operation)
 unfolding look

@@ -1,35 +1,65 @@
--- Stored records of an older layout, carried over: what words of layout 1 stood for, and the words of this layout for the same.
+-- Stored records of an older layout, carried over: what the words of layouts 1 and 2 stood for, and the words of this layout for the
+-- same.
 use Prim.Native.Nat.{ℕ}
 use mathlib.Core.Path.{_≡_}
-use mathlib.Core.Bool.{Bool, true, _&&_, _||_}
+use mathlib.Core.Bool.{Bool, true, false, _&&_, _||_}
 use mathlib.Core.List.{List, _∷_}
 use lib.Dec.{ltb}
+use Rattle.plain.specs.declared.Inside.{Inside}
 use Rattle.plain.specs.declared.Recovery.{Recovery}
-use Rattle.plain.specs.declared.Operation.the-variants.{Recovering}
+use Rattle.plain.specs.declared.Operation.{Operation}
+use Rattle.plain.specs.declared.Operation.the-variants.{Recovering, InOneTime}
 use Rattle.plain.specs.declared.Device.{Device}
 use Rattle.plain.specs.Record.{device}
-use Rattle.layout.specs.Places.{layoutNumber, recordWords, firstLayout, firstWords, clockAt, operationAt, lockAt}
+use Rattle.layout.specs.declared.CommandWords.{CommandWords}
+use Rattle.layout.specs.Places.{layoutNumber, recordWords, firstLayout, firstWords, secondLayout, secondWords, clockAt, operationAt, lockAt, recoveryAt}
 use Rattle.layout.specs.Commands.{commandFits, commandOf}
-use Rattle.layout.specs.Operations.{operationNumbered}
-use Rattle.layout.specs.Image.{word, section, meterOf, commandWordsOf, eraseOf, programOf, bitsOf, ofLayout, operationFits, wellFormed, deviceOf}
+use Rattle.layout.specs.Operations.{operationNumbered, operationOutside}
+use Rattle.layout.specs.Image.{word, section, meterOf, commandWordsOf, eraseOf, programOf, bitsSealed, ofLayout, operationFits, recoveryFits, wellFormed, deviceOf}
 
--- ---- layout 1
+-- ---- layouts 1 and 2
+
+pub data Older : Type 0 where
+  first : Older
+  second : Older
+
+abbrev pub numberIn : Older → ℕ
+numberIn first = firstLayout
+numberIn second = secondLayout
+
+abbrev pub wordsIn : Older → ℕ
+wordsIn first = firstWords
+wordsIn second = secondWords
+
+-- they had the commands up to 12
+abbrev pub commandFitted : CommandWords → Bool
+commandFitted c = ltb (c .number) 13 && commandFits c
+
+-- layout 1 had no recovery
+abbrev pub recoveryFitted : Older → List ℕ → Bool
+recoveryFitted first i = true
+recoveryFitted second i = recoveryFits i
 
 -- did the words stand for a record?
-unfoldable pub wellFormedBefore : List ℕ → Bool
-wellFormedBefore i =
-    (ofLayout firstLayout firstWords i && ltb (word i lockAt) 2) && (commandFits (commandWordsOf i) && operationFits i)
+unfoldable pub wellFormedIn : Older → List ℕ → Bool
+wellFormedIn v i =
+    (ofLayout (numberIn v) (wordsIn v) i && ltb (word i lockAt) 2)
+    && (commandFitted (commandWordsOf i) && (operationFits i && recoveryFitted v i))
 
--- and for which?
-unfoldable pub deviceBefore : List ℕ → Device
-deviceBefore i =
-    device (meterOf i) (commandOf (commandWordsOf i)) (operationNumbered (word i operationAt) (eraseOf i) (programOf i)) (bitsOf i)
+-- neither had the one-time block: a program wrote to the cells
+unfoldable pub operationIn : Older → List ℕ → Operation
+operationIn first i = operationNumbered (word i operationAt) (eraseOf i) (programOf false i)
+operationIn second i = operationOutside (word i operationAt) (eraseOf i) (programOf false i) (word i recoveryAt)
+
+-- for which record did they stand?
+unfoldable pub deviceIn : Older → List ℕ → Device
+deviceIn v i = device (meterOf i) (commandOf (commandWordsOf i)) (operationIn v i) (bitsSealed false i)
 
 -- ---- carried over
 
 -- the words of a layout that there is or was
 unfoldable pub carriable : List ℕ → Bool
-carriable i = ofLayout layoutNumber recordWords i || ofLayout firstLayout firstWords i
+carriable i = ofLayout layoutNumber recordWords i || (ofLayout secondLayout secondWords i || ofLayout firstLayout firstWords i)
 
 -- the new number, and the words as they were; those that an older layout did not have are 0
 unfoldable pub carried : List ℕ → List ℕ
@@ -39,11 +69,17 @@ carried i = layoutNumber ∷ section i clockAt recordWords
 
 -- what stood for a record stands for the same one
 abbrev pub CarriesOver : Type 0
-CarriesOver = (i : List ℕ) → wellFormedBefore i ≡ true → (wellFormed (carried i) ≡ true) × (deviceOf (carried i) ≡ deviceBefore i)
+CarriesOver = (v : Older) (i : List ℕ) → wellFormedIn v i ≡ true → (wellFormed (carried i) ≡ true) × (deviceOf (carried i) ≡ deviceIn v i)
 
--- and that record recovers from nothing
+-- of layout 1 that record recovers from nothing
 abbrev pub NoneRecovered : Type 0
-NoneRecovered = (i : List ℕ) (r : Recovery) → deviceBefore i .operation ≡ Recovering r → ⊥
+NoneRecovered = (i : List ℕ) (r : Recovery) → deviceIn first i .operation ≡ Recovering r → ⊥
+
+-- what is carried over, be it well-formed or not, has not entered the one-time block, and the customer's lock is open
+abbrev pub NoneEntered : Type 0
+NoneEntered =
+    (v : Older) (i : List ℕ) → ofLayout (numberIn v) (wordsIn v) i ≡ true
+    → ((x : Inside) → deviceOf (carried i) .operation ≡ InOneTime x → ⊥) × (deviceOf (carried i) .bits .sealed ≡ false)
 
 -- words of this layout stay as they are
 abbrev pub StaysCarried : Type 0

@@ -5,9 +5,9 @@ use lib.Dec.{eqb, ltb}
 use Rattle.plain.specs.declared.Command.{Command}
 use Rattle.plain.specs.declared.Command.the-variants.{Ground, Entering, Reads}
 use Rattle.plain.specs.declared.Cycle.{Cycle}
-use Rattle.plain.specs.declared.Cycle.the-variants.{Unlock, Unlocked, ProgramData, EraseSetup, EraseUnlock, EraseUnlocked, DybData, PpbSetup, PpbSetting, PpbClearing}
+use Rattle.plain.specs.declared.Cycle.the-variants.{Unlock, Unlocked, ProgramData, EraseSetup, EraseUnlock, EraseUnlocked, DybData, PpbSetup, PpbSetting, PpbClearing, OtpLocking}
 use Rattle.plain.specs.declared.Reading.{Reading}
-use Rattle.plain.specs.declared.Reading.the-variants.{Identity, Dybs}
+use Rattle.plain.specs.declared.Reading.the-variants.{Identity, Dybs, OtpLock}
 use Rattle.plain.specs.Choice.{if_then_else_}
 use Rattle.layout.specs.declared.CommandWords.{CommandWords}
 
@@ -28,10 +28,12 @@ cycleWords DybData = alone 7
 cycleWords PpbSetup = alone 8
 cycleWords (PpbSetting block) = beside 9 block
 cycleWords PpbClearing = alone 10
+cycleWords OtpLocking = alone 13
 
 unfoldable pub readingWords : Reading → CommandWords
 readingWords (Identity bank) = beside 11 bank
 readingWords Dybs = alone 12
+readingWords OtpLock = alone 14
 
 unfoldable pub commandWords : Command → CommandWords
 commandWords Ground = alone 0
@@ -40,7 +42,7 @@ commandWords (Reads g) = readingWords g
 
 -- is there a command of that number, and does it have a place if one is told?
 unfoldable pub commandFits : CommandWords → Bool
-commandFits c = ltb (c .number) 13 && (eqb (c .number) 9 || (eqb (c .number) 11 || eqb (c .place) 0))
+commandFits c = ltb (c .number) 15 && (eqb (c .number) 9 || (eqb (c .number) 11 || eqb (c .place) 0))
 
 -- the command that words which fit stand for
 unfoldable pub cycleOf : CommandWords → Cycle
@@ -54,11 +56,13 @@ cycleOf c =
     else if eqb (c .number) 7 then DybData
     else if eqb (c .number) 8 then PpbSetup
     else if eqb (c .number) 9 then PpbSetting (c .place)
-    else PpbClearing
+    else if eqb (c .number) 10 then PpbClearing
+    else OtpLocking
 
 unfoldable pub commandOf : CommandWords → Command
 commandOf c =
     if eqb (c .number) 0 then Ground
     else if eqb (c .number) 11 then Reads (Identity (c .place))
     else if eqb (c .number) 12 then Reads Dybs
+    else if eqb (c .number) 14 then Reads OtpLock
     else Entering (cycleOf c)

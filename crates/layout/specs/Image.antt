@@ -8,15 +8,19 @@ use lib.ListN.{length, getD}
 use Rattle.blocks.specs.declared.Blocks.{Blocks}
 use Rattle.meter.specs.declared.Meter.{Meter}
 use Rattle.protection.specs.declared.Protection.{Protection}
+use Rattle.protection.specs.Protection.{bits}
 use Rattle.plain.specs.declared.Program.{Program}
 use Rattle.plain.specs.declared.Erase.{Erase}
+use Rattle.plain.specs.declared.Suspension.{Suspension}
+use Rattle.plain.specs.declared.Suspension.the-variants.{Unsuspended, Entered}
 use Rattle.plain.specs.declared.Device.{Device}
 use Rattle.plain.specs.Choice.{if_then_else_}
+use Rattle.plain.specs.Operations.{selected}
 use Rattle.plain.specs.Programs.{writing}
 use Rattle.plain.specs.Record.{device, program, erase}
 use Rattle.layout.specs.declared.CommandWords.{CommandWords}
 use Rattle.layout.specs.declared.OperationParts.{OperationParts}
-use Rattle.layout.specs.Places.{layoutNumber, recordWords, layoutAt, clockAt, chargeAt, commandAt, placeAt, operationAt, listAt, handAt, eraseLeftAt, togglesAt, addressAt, dataAt, programLeftAt, toggleAt, dybAt, ppbAt, lockAt, recoveryAt}
+use Rattle.layout.specs.Places.{layoutNumber, recordWords, layoutAt, clockAt, chargeAt, commandAt, placeAt, operationAt, listAt, handAt, eraseLeftAt, togglesAt, addressAt, dataAt, programLeftAt, toggleAt, dybAt, ppbAt, lockAt, recoveryAt, enteredAt, sealedAt}
 use Rattle.layout.specs.Commands.{beside, commandWords, commandFits, commandOf}
 use Rattle.layout.specs.Operations.{partsWith, operationParts, erases, programs, operationOf}
 
@@ -51,9 +55,13 @@ operationSection o = o .number ∷ (eraseSection (o .erase) ++ programSection (o
 abbrev pub bitsSection : Protection → List ℕ
 bitsSection b = blocksSection (b .dyb) ++ (blocksSection (b .ppb) ++ (flag (b .lock) ∷ []))
 
+-- what came with layouts 2 and 3
+abbrev pub addedSection : OperationParts → Protection → List ℕ
+addedSection o b = o .recovery ∷ flag (o .entered) ∷ flag (b .sealed) ∷ []
+
 -- one after the other, behind the layout's number
 abbrev pub sections : Meter → CommandWords → OperationParts → Protection → List ℕ
-sections m c o b = layoutNumber ∷ (meterSection m ++ (commandSection c ++ (operationSection o ++ (bitsSection b ++ (o .recovery ∷ [])))))
+sections m c o b = layoutNumber ∷ (meterSection m ++ (commandSection c ++ (operationSection o ++ (bitsSection b ++ addedSection o b))))
 
 unfoldable pub imageOf : Device → List ℕ
 imageOf r = sections (r .meter) (commandWords (r .command)) (operationParts (r .operation)) (r .bits)
@@ -92,14 +100,28 @@ abbrev pub eraseOf : List ℕ → Erase
 eraseOf i =
     erase (blocksAt i listAt) (word i handAt) (word i eraseLeftAt) (eqb (word i togglesAt % 2) 1) (eqb (word i togglesAt / 2) 1)
 
-abbrev pub programOf : List ℕ → Program
-programOf i = program (writing (word i addressAt) (word i dataAt % 65536)) (word i programLeftAt) (eqb (word i toggleAt) 1)
+-- is the one-time block entered?
+abbrev pub enteredIn : List ℕ → Bool
+enteredIn i = eqb (word i enteredAt) 1
+
+-- what a program's address selects by
+abbrev pub mode : (entered : Bool) → Suspension
+mode entered = if entered then Entered else Unsuspended
+
+-- no word tells the array of a program: its address selects it
+abbrev pub programOf : (entered : Bool) → List ℕ → Program
+programOf entered i =
+    program (writing (selected (mode entered) (word i addressAt)) (word i addressAt) (word i dataAt % 65536)) (word i programLeftAt) (eqb (word i toggleAt) 1)
 
 abbrev pub partsOf : List ℕ → OperationParts
-partsOf i = partsWith (word i operationAt) (eraseOf i) (programOf i) (word i recoveryAt)
+partsOf i = partsWith (word i operationAt) (eraseOf i) (programOf (enteredIn i) i) (word i recoveryAt) (enteredIn i)
+
+-- with this lock of the customer's one-time words
+abbrev pub bitsSealed : (sealed : Bool) → List ℕ → Protection
+bitsSealed sealed i = bits (blocksAt i dybAt) (blocksAt i ppbAt) (eqb (word i lockAt) 1) sealed
 
 abbrev pub bitsOf : List ℕ → Protection
-bitsOf i = record { dyb = blocksAt i dybAt; ppb = blocksAt i ppbAt; lock = eqb (word i lockAt) 1 }
+bitsOf i = bitsSealed (eqb (word i sealedAt) 1) i
 
 -- ---- which words stand for a record
 
@@ -107,9 +129,9 @@ bitsOf i = record { dyb = blocksAt i dybAt; ppb = blocksAt i ppbAt; lock = eqb (
 abbrev pub ofLayout : (number words : ℕ) → List ℕ → Bool
 ofLayout n count i = eqb (length i) count && eqb (word i layoutAt) n
 
--- and one bit for the lock
+-- and one bit for each lock
 unfoldable pub marked : List ℕ → Bool
-marked i = ofLayout layoutNumber recordWords i && ltb (word i lockAt) 2
+marked i = ofLayout layoutNumber recordWords i && (ltb (word i lockAt) 2 && ltb (word i sealedAt) 2)
 
 unfoldable pub eraseFits : List ℕ → Bool
 eraseFits i = if erases (word i operationAt) then ltb (word i togglesAt) 4 else unused i listAt addressAt
@@ -126,12 +148,16 @@ operationFits i = ltb (word i operationAt) 8 && (eraseFits i && programFits i)
 unfoldable pub recoveryFits : List ℕ → Bool
 recoveryFits i = eqb (word i operationAt) 4 || eqb (word i recoveryAt) 0
 
-unfoldable pub wellFormed : List ℕ → Bool
-wellFormed i = marked i && (commandFits (commandWordsOf i) && (operationFits i && recoveryFits i))
+-- the one-time block is entered with nothing or a program, and nothing else
+unfoldable pub enteredFits : List ℕ → Bool
+enteredFits i = if ltb (word i operationAt) 2 then ltb (word i enteredAt) 2 else eqb (word i enteredAt) 0
 
--- do they stand for an idle device: at ground, with nothing that runs or is suspended?
+unfoldable pub wellFormed : List ℕ → Bool
+wellFormed i = marked i && (commandFits (commandWordsOf i) && (operationFits i && (recoveryFits i && enteredFits i)))
+
+-- do they stand for an idle device: at ground, with nothing that runs, is suspended or is entered?
 unfoldable pub idleWords : List ℕ → Bool
-idleWords i = marked i && (unused i commandAt dybAt && eqb (word i recoveryAt) 0)
+idleWords i = marked i && (unused i commandAt dybAt && unused i recoveryAt sealedAt)
 
 -- ---- the record that well-formed words stand for
 

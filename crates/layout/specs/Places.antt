@@ -3,17 +3,23 @@
 use Prim.Native.Nat.{ℕ}
 
 abbrev pub layoutNumber : ℕ
-layoutNumber = 2
+layoutNumber = 3
 
 abbrev pub recordWords : ℕ
-recordWords = 30
+recordWords = 32
 
--- layout 1 had all of its words but the last
+-- those before had its first words
 abbrev pub firstLayout : ℕ
 firstLayout = 1
 
 abbrev pub firstWords : ℕ
 firstWords = 29
+
+abbrev pub secondLayout : ℕ
+secondLayout = 2
+
+abbrev pub secondWords : ℕ
+secondWords = 30
 
 abbrev pub layoutAt : ℕ
 layoutAt = 0
@@ -72,3 +78,10 @@ lockAt = 28
 -- from layout 2 on: the time left of a recovery
 abbrev pub recoveryAt : ℕ
 recoveryAt = 29
+
+-- from layout 3 on: 1 while the one-time block is entered, and its customer's lock
+abbrev pub enteredAt : ℕ
+enteredAt = 30
+
+abbrev pub sealedAt : ℕ
+sealedAt = 31

@@ -12,7 +12,7 @@ use Rattle.plain.specs.declared.Command.{Command}
 use Rattle.plain.specs.declared.Device.{Device}
 use Rattle.layout.specs.declared.CommandWords.{CommandWords}
 use Rattle.layout.specs.declared.OperationParts.{OperationParts}
-use Rattle.layout.specs.Places.{layoutNumber, layoutAt, clockAt, chargeAt, commandAt, placeAt, operationAt, listAt, handAt, eraseLeftAt, togglesAt, addressAt, dataAt, programLeftAt, toggleAt, dybAt, ppbAt, lockAt, recoveryAt}
+use Rattle.layout.specs.Places.{layoutNumber, layoutAt, clockAt, chargeAt, commandAt, placeAt, operationAt, listAt, handAt, eraseLeftAt, togglesAt, addressAt, dataAt, programLeftAt, toggleAt, dybAt, ppbAt, lockAt, recoveryAt, enteredAt, sealedAt}
 use Rattle.layout.specs.Commands.{commandWords}
 use Rattle.layout.specs.Operations.{operationParts}
 use Rattle.layout.specs.Image.{flag, toggles}
@@ -38,7 +38,8 @@ withProgram i q =
     set (set (set (set i addressAt (q .writes .at)) dataAt (q .writes .word)) programLeftAt (q .left)) toggleAt (flag (q .dq6))
 
 abbrev pub withParts : List ℕ → OperationParts → List ℕ
-withParts i o = set (set (withProgram (withErase i (o .erase)) (o .program)) operationAt (o .number)) recoveryAt (o .recovery)
+withParts i o =
+    set (set (set (withProgram (withErase i (o .erase)) (o .program)) operationAt (o .number)) recoveryAt (o .recovery)) enteredAt (flag (o .entered))
 
 unfoldable pub withOperation : List ℕ → Operation → List ℕ
 withOperation i o = withParts i (operationParts o)
@@ -51,7 +52,8 @@ unfoldable pub withToggles : List ℕ → Operation → List ℕ
 withToggles i o = withTogglesOf i (operationParts o)
 
 unfoldable pub withBits : List ℕ → Protection → List ℕ
-withBits i b = set (withBlocks (withBlocks i dybAt (b .dyb)) ppbAt (b .ppb)) lockAt (flag (b .lock))
+withBits i b =
+    set (set (withBlocks (withBlocks i dybAt (b .dyb)) ppbAt (b .ppb)) lockAt (flag (b .lock))) sealedAt (flag (b .sealed))
 
 -- all of them
 unfoldable pub withRecord : List ℕ → Device → List ℕ

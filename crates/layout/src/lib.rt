@@ -4,13 +4,17 @@ use plain::Erase;
 use plain::Program;
 
 // A later layout has its new words at the end, and 0 there means "as before".
-pub const LAYOUT: u64 = 2;
+pub const LAYOUT: u64 = 3;
 
-pub const RECORD_WORDS: usize = 30;
-// Layout 1 had all of its words but the last.
+pub const RECORD_WORDS: usize = 32;
+// Those before had its first words.
 pub const FIRST_LAYOUT: u64 = 1;
 
 pub const FIRST_WORDS: usize = 29;
+
+pub const SECOND_LAYOUT: u64 = 2;
+
+pub const SECOND_WORDS: usize = 30;
 
 pub const LAYOUT_AT: usize = 0;
 
@@ -47,6 +51,10 @@ pub const PPB_AT: usize = 23;
 pub const LOCK_AT: usize = 28;
 // From layout 2 on: the time left of a recovery.
 pub const RECOVERY_AT: usize = 29;
+// From layout 3 on: whether the one-time block is entered, and its customer's lock.
+pub const ENTERED_AT: usize = 30;
+
+pub const SEALED_AT: usize = 31;
 
 // The command register: its number, and the block or bank beside it.
 pub struct CommandWords {
@@ -54,10 +62,12 @@ pub struct CommandWords {
     pub place: u64,
 }
 
-// What runs or is suspended: its number, its erase, its program and the time left of its recovery, all 0 where it has none.
+// What runs or is suspended: its number, its erase, its program and the time left of its recovery, all 0 where it has none; and whether
+// the one-time block is entered.
 pub struct OperationParts {
     pub number: u64,
     pub erase: Erase,
     pub program: Program,
     pub recovery: u64,
+    pub entered: bool,
 }

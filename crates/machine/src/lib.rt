@@ -1,10 +1,10 @@
-// The device: one bus read, bus write, wait or power cut at a time, over cells that the caller lends. Every record, address,
-// word, wait and lent length is answered; the caller need have checked nothing.
+// The device: one bus read, bus write, wait or power cut at a time, over cells and one-time words that the caller lends. Every
+// record, address, word, wait and lent length is answered; the caller need have checked nothing.
 ghost use mathlib.Core.Path.{_≡_};
 ghost use Rattle.plain.specs.Lent.{lent};
 ghost use Rattle.plain.specs.Record.{fresh, device};
 ghost use Rattle.plain.specs.Sound.{sound};
-ghost use Rattle.plain.specs.Machine.{readEvent, writeEvent, waitEvent, cutEvent};
+ghost use Rattle.plain.specs.Machine.{readEvent, writeEvent, waitEvent, cutEvent, rangeArray, rangeEvent, rangeWords};
 ghost use Rattle.judged.specs.Asked.{exposedNow, readsCells};
 ghost use Rattle.judged.specs.Foreseen.{endNow, changeNow, debrisNow};
 use access::Sight;
@@ -14,9 +14,11 @@ use geometry::Part;
 use judged::Figure;
 use meter::Meter;
 use plain::Answer;
+use plain::Array;
 use plain::Device;
 use plain::Entry;
 use plain::Operation;
+use plain::Refusal;
 use remaining::Change;
 
 // "A fresh device has clock 0, charge 0, no operation, no protection, any cells."
@@ -32,10 +34,10 @@ pub fn is_sound(part: Part, device: Device) -> bool
     soundness::is_sound(part, device)
 }
 
-pub fn read(part: Part, device: Device, cells: &[u16], address: usize) -> Answer
-    ensures { λ r. ⌜ r ≡ readEvent part device (lent (now (cells .entry))) address .answer ⌝ }
+pub fn read(part: Part, device: Device, cells: &[u16], otp: &[u16], address: usize) -> Answer
+    ensures { λ r. ⌜ r ≡ readEvent part device (lent (now (cells .entry)) (now (otp .entry))) address .answer ⌝ }
 {
-    let sight = access::read(part, device, cells, address);
+    let sight = access::read(part, device, cells, otp, address);
     match sight {
         Sight::Refused(refusal) => answers::refused(refusal, device),
         Sight::Shown(seen) => {
@@ -46,18 +48,32 @@ pub fn read(part: Part, device: Device, cells: &[u16], address: usize) -> Answer
 }
 
 // A write alters no cell: their length is judged, and by A0H's data cycle the word that it would program.
-pub fn write(part: Part, device: Device, cells: &[u16], address: usize, word: u16) -> Answer
-    ensures { λ r. ⌜ r ≡ writeEvent part device (lent (now (cells .entry))) address word .answer ⌝ }
+pub fn write(
+    part: Part,
+    device: Device,
+    cells: &[u16],
+    otp: &[u16],
+    address: usize,
+    word: u16,
+) -> Answer
+    ensures { λ r. ⌜ r ≡ writeEvent part device (lent (now (cells .entry)) (now (otp .entry))) address word .answer ⌝ }
 {
-    let effect = access::write(part, device, cells, address, word);
+    let effect = access::write(part, device, cells, otp, address, word);
     register::effected(device, effect)
 }
 
-pub fn wait(part: Part, device: Device, cells: &mut [u16], microseconds: u64) -> Answer
-    ensures { λ r. ⌜ r ≡ waitEvent part device (lent (now (cells .entry))) microseconds .answer ⌝ }
-    ensures { λ r. ⌜ now (cells .exit) ≡ waitEvent part device (lent (now (cells .entry))) microseconds .lent .cells ⌝ }
+pub fn wait(
+    part: Part,
+    device: Device,
+    cells: &mut [u16],
+    otp: &mut [u16],
+    microseconds: u64,
+) -> Answer
+    ensures { λ r. ⌜ r ≡ waitEvent part device (lent (now (cells .entry)) (now (otp .entry))) microseconds .answer ⌝ }
+    ensures { λ r. ⌜ now (cells .exit) ≡ waitEvent part device (lent (now (cells .entry)) (now (otp .entry))) microseconds .lent .cells ⌝ }
+    ensures { λ r. ⌜ now (otp .exit) ≡ waitEvent part device (lent (now (cells .entry)) (now (otp .entry))) microseconds .lent .otp ⌝ }
 {
-    let lapse = elapsed::wait(part, device, cells, microseconds);
+    let lapse = elapsed::wait(part, device, cells, otp, microseconds);
     match lapse {
         Lapse::Refused(refusal) => answers::refused(refusal, device),
         Lapse::Passed(after) => {
@@ -67,15 +83,51 @@ pub fn wait(part: Part, device: Device, cells: &mut [u16], microseconds: u64) ->
     }
 }
 
-pub fn cut(part: Part, device: Device, cells: &mut [u16], debris: &[u16]) -> Answer
-    ensures { λ r. ⌜ r ≡ cutEvent part device (lent (now (cells .entry))) (now (debris .entry)) .answer ⌝ }
-    ensures { λ r. ⌜ now (cells .exit) ≡ cutEvent part device (lent (now (cells .entry))) (now (debris .entry)) .lent .cells ⌝ }
+pub fn cut(part: Part, device: Device, cells: &mut [u16], otp: &mut [u16], debris: &[u16]) -> Answer
+    ensures { λ r. ⌜ r ≡ cutEvent part device (lent (now (cells .entry)) (now (otp .entry))) (now (debris .entry)) .answer ⌝ }
+    ensures { λ r. ⌜ now (cells .exit) ≡ cutEvent part device (lent (now (cells .entry)) (now (otp .entry))) (now (debris .entry)) .lent .cells ⌝ }
+    ensures { λ r. ⌜ now (otp .exit) ≡ cutEvent part device (lent (now (cells .entry)) (now (otp .entry))) (now (debris .entry)) .lent .otp ⌝ }
 {
-    let entry = elapsed::cut(part, device, cells, debris);
+    let entry = elapsed::cut(part, device, cells, otp, debris);
     match entry {
         Entry::Barred(refusal) => answers::refused(refusal, device),
         Entry::Admitted => answers::done(0, answers::cut_device(device.meter, device.bits)),
     }
+}
+
+// Document 02, request 4: the refusal of a range, the array that mode and first address select, and the words in place; none if it is
+// refused. It changes nothing.
+pub fn range_refusal(
+    part: Part,
+    device: Device,
+    cells: &[u16],
+    otp: &[u16],
+    first: usize,
+    count: usize,
+) -> Refusal
+    ensures { λ r. ⌜ r ≡ rangeEvent part device (lent (now (cells .entry)) (now (otp .entry))) first count .answer .refusal ⌝ }
+{
+    ranging::refusal(part, device, cells, otp, first, count)
+}
+
+pub fn range_array(device: Device, first: usize) -> Array
+    ensures { λ r. ⌜ r ≡ rangeArray (device .operation) first ⌝ }
+{
+    let operation = device.operation;
+    ranging::array(operation, first)
+}
+
+pub fn range<'a>(
+    part: Part,
+    device: Device,
+    cells: &'a [u16],
+    otp: &'a [u16],
+    first: usize,
+    count: usize,
+) -> &'a [u16]
+    ensures { λ r. ⌜ now r ≡ rangeWords part device (lent (now (cells .entry)) (now (otp .entry))) first count ⌝ }
+{
+    ranging::range(part, device, cells, otp, first, count)
 }
 
 // The record with another meter and another operation: what a read or a wait may change of it.
@@ -92,7 +144,7 @@ fn moved(from: Device, meter: Meter, operation: Operation) -> Device
     }
 }
 
-// Which block and which word an accepted cut would change if it came now; none for a record that is not sound.
+// Which block and which word of which array an accepted cut would change if it came now; none for a record that is not sound.
 pub fn exposed(part: Part, device: Device) -> Exposed
     ensures { λ r. ⌜ r ≡ exposedNow part device ⌝ }
 {

@@ -21,7 +21,7 @@ pub fn gives_cells(part: Part, command: Command, operation: Operation, bank: usi
     !rests_in(part, operations::suspension_of(operation), bank)
 }
 
-// Is an identity or a 58H reading on in the bank?
+// Is an identity reading on in the bank, a 58H reading, or the status of the customer's lock?
 fn reading_in(command: Command, bank: usize) -> bool
     ensures { λ r. ⌜ r ≡ readingIn command bank ⌝ }
 {
@@ -38,6 +38,7 @@ fn given_in(reading: Reading, bank: usize) -> bool
     match reading {
         Reading::Identity(of) => bank == of,
         Reading::Dybs => true,
+        Reading::OtpLock => true,
     }
 }
 
@@ -61,7 +62,7 @@ fn runs_in(part: Part, running: Running, bank: usize) -> bool
     }
 }
 
-// Does a block of the bank wait for an operation to go on?
+// Does a block of the bank wait for an operation to go on, or do one-time words stand in the place of some of its cells?
 fn rests_in(part: Part, suspension: Suspension, bank: usize) -> bool
     ensures { λ r. ⌜ r ≡ restsIn part suspension bank ⌝ }
 {
@@ -72,5 +73,6 @@ fn rests_in(part: Part, suspension: Suspension, bank: usize) -> bool
             bank == programs::bank_written(part, written)
         }
         Suspension::OfErase(erase) => bank == part.bank_of_block(erase.hand),
+        Suspension::Entered => bank == part.bank_of(0),
     }
 }

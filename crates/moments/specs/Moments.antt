@@ -3,12 +3,11 @@ use Prim.Native.Nat.{ℕ, _+_, _*_, _≤_}
 use mathlib.Core.Path.{_≡_}
 use mathlib.Core.Bool.{true}
 use Rattle.geometry.specs.declared.Part.{Part}
-use Rattle.geometry.specs.Parts.{wordCount}
 use Rattle.meter.specs.declared.Meter.{Meter}
 use Rattle.protection.specs.declared.Protection.{Protection}
 use Rattle.plain.specs.declared.Operation.{Operation}
 use Rattle.plain.specs.Figures.{runningCurrent, clockLimit}
-use Rattle.plain.specs.Lent.{Lent}
+use Rattle.plain.specs.Lent.{Lent, Whole}
 use Rattle.plain.specs.Sound.{operationSound}
 use Rattle.plain.specs.Time.{Moment, moment, ticks}
 use Rattle.moments.specs.declared.Moved.{Moved}
@@ -26,9 +25,9 @@ pub record Room (p : Part) (m : Meter) (n : ℕ) : Type 0 where
   pub clock : m .clock + n ≤ clockLimit p
   pub charge : m .charge ≤ runningCurrent p * m .clock
 
--- besides, the cells are whole, and the operation is sound under some protection
-pub record Passable (p : Part) (m : Meter) (o : Operation) (length n : ℕ) : Type 0 where
+-- besides, what is lent is whole, and the operation is sound under some protection
+pub record Passable (p : Part) (m : Meter) (o : Operation) (l : Lent) (n : ℕ) : Type 0 where
   pub room : Room p m n
-  pub whole : length ≡ wordCount p
+  pub whole : Whole p l
   pub bits : Protection
   pub sound : operationSound p bits o ≡ true

@@ -30,6 +30,7 @@ fn cycle_words(cycle: Cycle) -> CommandWords
         Cycle::PpbSetup => beside(8, 0),
         Cycle::PpbSetting(block) => beside(9, block),
         Cycle::PpbClearing => beside(10, 0),
+        Cycle::OtpLocking => beside(13, 0),
     }
 }
 
@@ -39,6 +40,7 @@ fn reading_words(reading: Reading) -> CommandWords
     match reading {
         Reading::Identity(bank) => beside(11, bank),
         Reading::Dybs => beside(12, 0),
+        Reading::OtpLock => beside(14, 0),
     }
 }
 
@@ -58,6 +60,7 @@ pub fn command_of(number: u64, place: u64) -> Command
         0 => Command::Ground,
         11 => Command::Reads(Reading::Identity(place as usize)),
         12 => Command::Reads(Reading::Dybs),
+        14 => Command::Reads(Reading::OtpLock),
         _ => {
             let cycle = cycle_of(number, place);
             Command::Entering(cycle)
@@ -65,7 +68,7 @@ pub fn command_of(number: u64, place: u64) -> Command
     }
 }
 
-// Of a number past 12, which no record has, it tells the last.
+// Of a number past 14, which no record has, it tells the last.
 fn cycle_of(number: u64, place: u64) -> Cycle
     ensures { λ r. ⌜ r ≡ cycleOf (beside number place) ⌝ }
 {
@@ -79,6 +82,7 @@ fn cycle_of(number: u64, place: u64) -> Cycle
         7 => Cycle::DybData,
         8 => Cycle::PpbSetup,
         9 => Cycle::PpbSetting(place as usize),
-        _ => Cycle::PpbClearing,
+        10 => Cycle::PpbClearing,
+        _ => Cycle::OtpLocking,
     }
 }

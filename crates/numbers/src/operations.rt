@@ -1,8 +1,10 @@
-// What runs or is suspended, and its number, its erase, its program and the time left of its recovery.
+// What runs, is suspended or is entered, and its number, its erase, its program, the time left of its recovery and whether the one-time
+// block is entered.
 ghost use mathlib.Core.Path.{_≡_};
-ghost use Rattle.layout.specs.Operations.{noErase, noProgram, partsWith, parts, suspendedParts, operationParts, operationNumbered, operationOf};
+ghost use Rattle.layout.specs.Operations.{noErase, noProgram, partsWith, parts, suspendedParts, enteredParts, operationParts, operationNumbered, operationOutside, insideNumbered, operationOf};
 use blocks::Blocks;
 use layout::OperationParts;
+use plain::Array;
 use plain::Erase;
 use plain::Inside;
 use plain::Operation;
@@ -27,6 +29,7 @@ pub fn parts_of(operation: Operation) -> OperationParts
                 erase: erase,
                 program: no_program(),
                 recovery: recovery.left,
+                entered: false,
             }
         }
         Operation::EraseSuspended(suspended) => {
@@ -34,6 +37,7 @@ pub fn parts_of(operation: Operation) -> OperationParts
             suspended_parts(suspended.erase, inside)
         }
         Operation::ChipErasing(erase) => parts(7, erase, no_program()),
+        Operation::InOneTime(inside) => entered_parts(inside),
     }
 }
 
@@ -54,6 +58,29 @@ fn parts(number: u64, erase: Erase, program: Program) -> OperationParts
         erase: erase,
         program: program,
         recovery: 0,
+        entered: false,
+    }
+}
+
+// In the one-time block: the numbers of nothing and of a program.
+fn entered_parts(inside: Inside) -> OperationParts
+    ensures { λ r. ⌜ r ≡ enteredParts inside ⌝ }
+{
+    match inside {
+        Inside::Nothing => OperationParts {
+            number: 0,
+            erase: no_erase(),
+            program: no_program(),
+            recovery: 0,
+            entered: true,
+        },
+        Inside::Runs(program) => OperationParts {
+            number: 1,
+            erase: no_erase(),
+            program: program,
+            recovery: 0,
+            entered: true,
+        },
     }
 }
 
@@ -80,14 +107,45 @@ fn no_program() -> Program
     ensures { λ r. ⌜ r ≡ noProgram ⌝ }
 {
     Program {
-        writes: Written { at: 0, word: 0 },
+        writes: Written {
+            array: Array::Main,
+            at: 0,
+            word: 0,
+        },
         left: 0,
         dq6: false,
     }
 }
 
-pub fn operation_of(number: u64, erase: Erase, program: Program, recovery: u64) -> Operation
-    ensures { λ r. ⌜ r ≡ operationOf (partsWith number erase program recovery) ⌝ }
+pub fn operation_of(
+    number: u64,
+    erase: Erase,
+    program: Program,
+    recovery: u64,
+    entered: bool,
+) -> Operation
+    ensures { λ r. ⌜ r ≡ operationOf (partsWith number erase program recovery entered) ⌝ }
+{
+    if entered {
+        let inside = inside_numbered(number, program);
+        return Operation::InOneTime(inside);
+    }
+    operation_outside(number, erase, program, recovery)
+}
+
+// In the one-time block: a program or nothing.
+fn inside_numbered(number: u64, program: Program) -> Inside
+    ensures { λ r. ⌜ r ≡ insideNumbered number program ⌝ }
+{
+    if number == 1 {
+        return Inside::Runs(program);
+    }
+    Inside::Nothing
+}
+
+// Outside: where time is left of a recovery, that.
+fn operation_outside(number: u64, erase: Erase, program: Program, recovery: u64) -> Operation
+    ensures { λ r. ⌜ r ≡ operationOutside number erase program recovery ⌝ }
 {
     if recovery == 0 {
         return operation_numbered(number, erase, program);

@@ -1,10 +1,12 @@
-// An operation by the two questions that most rules ask of it: what of it runs, and what of it is suspended.
+// An operation by the two questions that most rules ask of it: what of it runs, and what stands while nothing does.
 ghost use mathlib.Core.Path.{_≡_};
-ghost use Rattle.plain.specs.Operations.{runningInside, runningOf, suspensionOf};
+ghost use Rattle.plain.specs.Operations.{runningInside, runningOf, suspensionOf, isEntered, selected};
+use plain::Array;
 use plain::Inside;
 use plain::Operation;
 use plain::Running;
 use plain::Suspension;
+use plain::figures;
 
 pub fn running_of(operation: Operation) -> Running
     ensures { λ r. ⌜ r ≡ runningOf operation ⌝ }
@@ -21,6 +23,7 @@ pub fn running_of(operation: Operation) -> Running
             running_inside(inside)
         }
         Operation::ChipErasing(erase) => Running::ErasesChip(erase),
+        Operation::InOneTime(inside) => running_inside(inside),
     }
 }
 
@@ -34,7 +37,7 @@ fn running_inside(inside: Inside) -> Running
     }
 }
 
-// "only a block erase or a program may be suspended"
+// "only a block erase or a program may be suspended"; or the one-time block is entered
 pub fn suspension_of(operation: Operation) -> Suspension
     ensures { λ r. ⌜ r ≡ suspensionOf operation ⌝ }
 {
@@ -50,5 +53,30 @@ pub fn suspension_of(operation: Operation) -> Suspension
             Suspension::OfErase(erase)
         }
         Operation::ChipErasing(_) => Suspension::Unsuspended,
+        Operation::InOneTime(_) => Suspension::Entered,
     }
+}
+
+pub fn is_entered(suspension: Suspension) -> bool
+    ensures { λ r. ⌜ r ≡ isEntered suspension ⌝ }
+{
+    match suspension {
+        Suspension::Unsuspended => false,
+        Suspension::OfProgram(_) => false,
+        Suspension::OfErase(_) => false,
+        Suspension::Entered => true,
+    }
+}
+
+// "the one-time words or .. the main array, whichever its first address selects"
+pub fn selected(suspension: Suspension, address: usize) -> Array
+    ensures { λ r. ⌜ r ≡ selected suspension address ⌝ }
+{
+    if figures::OTP_WORDS <= address {
+        return Array::Main;
+    }
+    if is_entered(suspension) {
+        return Array::OneTime;
+    }
+    Array::Main
 }

@@ -13,7 +13,7 @@ use Rattle.layout.proofs.Idle.{idle-device}
 use Rattle.face.specs.Face.{partNamed, stands, standsSound, none}
 use Rattle.remaining.specs.Remaining.{changeOf, untilEnd}
 use Rattle.judged.specs.Foreseen.{endNow, changeNow, debrisNow}
-use Rattle.outlook.specs.Foreseen.{figureNumber, changeTime, changeBlock, changeWord, faceUntilEnd, faceUntilChange, faceChangingBlock, faceChangingWord, faceDebrisNeeded}
+use Rattle.outlook.specs.Foreseen.{figureNumber, changeTime, changeBlock, changeWord, changeArray, faceUntilEnd, faceUntilChange, faceChangingBlock, faceChangingWord, faceChangingArray, faceDebrisNeeded}
 
 module _ (part : ℕ) (i : List ℕ) (idle : idleWords i ≡ true) where
   pub no-change : faceUntilChange part i ≡ none
@@ -33,6 +33,13 @@ module _ (part : ℕ) (i : List ℕ) (idle : idleWords i ≡ true) where
   pub no-changing-word : faceChangingWord part i ≡ none
   unfolding faceChangingWord changeNow changeOf runningOf changeWord
   no-changing-word =
+      by-cases (stands part i)
+      (λ s. by-cases (sound (partNamed part) (deviceOf i)) (λ t. rw (s, t, idle-device i idle)) (λ t. rw (s, t)))
+      (λ s. rw s)
+
+  pub no-changing-array : faceChangingArray part i ≡ none
+  unfolding faceChangingArray changeNow changeOf runningOf changeArray
+  no-changing-array =
       by-cases (stands part i)
       (λ s. by-cases (sound (partNamed part) (deviceOf i)) (λ t. rw (s, t, idle-device i idle)) (λ t. rw (s, t)))
       (λ s. rw s)

@@ -8,7 +8,7 @@ use Rattle.remaining.specs.declared.Change.the-variants.{Never, WindowEnds, Rec
 use Rattle.judged.specs.declared.foreseen.Figure.{Figure}
 use Rattle.judged.specs.declared.foreseen.Figure.the-variants.{Unknown, Known}
 use Rattle.judged.specs.Foreseen.{endNow, changeNow, debrisNow}
-use Rattle.face.specs.Face.{partNamed, stands, none}
+use Rattle.face.specs.Face.{partNamed, stands, none, arrayNumber}
 
 -- ---- as numbers
 
@@ -16,7 +16,7 @@ unfoldable pub figureNumber : Figure → ℕ
 figureNumber Unknown = none
 figureNumber (Known n) = n
 
--- when the device changes, and the block or the word that is finished then
+-- when the device changes, and the block, or the word and its array, that is finished then
 unfoldable pub changeTime : Change → ℕ
 changeTime Never = none
 changeTime (WindowEnds n) = n
@@ -38,6 +38,13 @@ changeWord (RecoveryEnds n) = none
 changeWord (WordDone f) = f .at
 changeWord (BlockDone f) = none
 
+unfoldable pub changeArray : Change → ℕ
+changeArray Never = none
+changeArray (WindowEnds n) = none
+changeArray (RecoveryEnds n) = none
+changeArray (WordDone f) = arrayNumber (f .array)
+changeArray (BlockDone f) = none
+
 -- ---- of the record that the words stand for
 
 unfoldable pub faceUntilEnd : (part : ℕ) → List ℕ → ℕ
@@ -51,6 +58,9 @@ faceChangingBlock part i = if stands part i then changeBlock (changeNow (partNam
 
 unfoldable pub faceChangingWord : (part : ℕ) → List ℕ → ℕ
 faceChangingWord part i = if stands part i then changeWord (changeNow (partNamed part) (deviceOf i)) else none
+
+unfoldable pub faceChangingArray : (part : ℕ) → List ℕ → ℕ
+faceChangingArray part i = if stands part i then changeArray (changeNow (partNamed part) (deviceOf i)) else none
 
 unfoldable pub faceDebrisNeeded : (part : ℕ) → List ℕ → ℕ
 faceDebrisNeeded part i = if stands part i then figureNumber (debrisNow (partNamed part) (deviceOf i)) else none

@@ -4,11 +4,11 @@ ghost use mathlib.Core.Bool.{true};
 ghost use Rattle.plain.specs.Choice.{if_then_else_};
 ghost use Rattle.layout.specs.Image.{idleWords};
 ghost use Rattle.face.specs.Face.{standsSound, none};
-ghost use Rattle.outlook.specs.Foreseen.{figureNumber, changeTime, changeBlock, changeWord, faceUntilEnd, faceUntilChange, faceChangingBlock, faceChangingWord, faceDebrisNeeded};
+ghost use Rattle.outlook.specs.Foreseen.{figureNumber, changeTime, changeBlock, changeWord, changeArray, faceUntilEnd, faceUntilChange, faceChangingBlock, faceChangingWord, faceChangingArray, faceDebrisNeeded};
 use judged::Figure;
 use remaining::Change;
 
-// No time, no block, no word.
+// No time, no block, no word, no array.
 const NONE: u64 = 0xffffffffffffffff;
 
 fn figure_number(figure: Figure) -> u64
@@ -52,6 +52,21 @@ fn change_word(change: Change) -> u64
         Change::WindowEnds(_) => NONE,
         Change::RecoveryEnds(_) => NONE,
         Change::WordDone(finish) => finish.at as u64,
+        Change::BlockDone(_) => NONE,
+    }
+}
+
+fn change_array(change: Change) -> u64
+    ensures { λ r. ⌜ r ≡ changeArray change ⌝ }
+{
+    match change {
+        Change::Never => NONE,
+        Change::WindowEnds(_) => NONE,
+        Change::RecoveryEnds(_) => NONE,
+        Change::WordDone(finish) => {
+            let array = finish.array;
+            calls::array_number(array)
+        }
         Change::BlockDone(_) => NONE,
     }
 }
@@ -113,6 +128,18 @@ pub fn changing_word(part: u64, words: &[u64]) -> u64
         return NONE;
     }
     change_word(judged::foreseen::until_change(calls::part_named(part), image::device_of(words)))
+}
+
+pub fn changing_array(part: u64, words: &[u64]) -> u64
+    ensures { λ r. ⌜ r ≡ faceChangingArray part (now (words .entry)) ⌝ }
+{
+    if image::is_idle(words) {
+        return NONE;
+    }
+    if !calls::stands(part, words) {
+        return NONE;
+    }
+    change_array(judged::foreseen::until_change(calls::part_named(part), image::device_of(words)))
 }
 
 pub fn debris_needed(part: u64, words: &[u64]) -> u64

@@ -13,15 +13,15 @@ use Rattle.plain.specs.declared.Inside.{Inside}
 use Rattle.plain.specs.declared.Inside.the-variants.{Nothing, Runs}
 use Rattle.plain.specs.declared.SuspendedErase.{SuspendedErase}
 use Rattle.plain.specs.declared.Operation.{Operation}
-use Rattle.plain.specs.declared.Operation.the-variants.{Idle, Programming, ProgramSuspended, Window, Erasing, Recovering, EraseSuspended, ChipErasing}
+use Rattle.plain.specs.declared.Operation.the-variants.{Idle, Programming, ProgramSuspended, Window, Erasing, Recovering, EraseSuspended, ChipErasing, InOneTime}
 use Rattle.plain.specs.Operations.{runningOf, runningInside}
 use Rattle.plain.specs.Ends.{endsProtected, someEndProtected, NeverEndsProtected}
 use Rattle.plain.specs.Unmade.{Met}
 use Rattle.plain.specs.Machine.{now}
-use Rattle.plain.specs.Programs.{blockWritten}
+use Rattle.plain.specs.Programs.{barred}
 use Rattle.plain.specs.Sound.{erasable, operationSound}
 use Rattle.plain.specs.Time.{Moment, last, insideTick, operationTick, tick}
-use Rattle.plain.proofs.Facts.{sound-operation, EraseFacts, programming, erasing, chip-erasing, inside-runs}
+use Rattle.plain.proofs.Facts.{sound-operation, EraseFacts, programming, erasing, chip-erasing, inside-runs, entered-runs}
 use Rattle.plain.proofs.SoundTime.{tick-fit}
 
 -- what may be listed is not protected
@@ -35,18 +35,24 @@ module _ (p : Part) (bits : Protection) where
   inside-free : (s : SuspendedErase) (i : Inside) → s .inside ≡ i → operationSound p bits (EraseSuspended s) ≡ true → endsProtected p bits (runningInside i) ≡ false
   unfolding runningInside endsProtected
   inside-free s Nothing d h = refl
-  inside-free s (Runs q) d h = rw (inside-runs p bits s q h d .program .unprotected) (and-false (last (q .left)))
+  inside-free s (Runs q) d h = rw (inside-runs p bits s q h d .program .free) (and-false (last (q .left)))
+
+  entered-free : (i : Inside) → operationSound p bits (InOneTime i) ≡ true → endsProtected p bits (runningInside i) ≡ false
+  unfolding runningInside endsProtected
+  entered-free Nothing h = refl
+  entered-free (Runs q) h = rw (entered-runs p bits q h .free) (and-false (last (q .left)))
 
   ends-free : (o : Operation) → operationSound p bits o ≡ true → endsProtected p bits (runningOf o) ≡ false
   unfolding endsProtected runningOf
   ends-free Idle s = refl
-  ends-free (Programming q) s = rw (programming p bits q s .unprotected) (and-false (last (q .left)))
+  ends-free (Programming q) s = rw (programming p bits q s .free) (and-false (last (q .left)))
   ends-free (ProgramSuspended q) s = refl
   ends-free (Window e) s = refl
   ends-free (Erasing e) s = hand-free e _ (erasing p bits e s .erase)
   ends-free (Recovering r) s = refl
   ends-free (EraseSuspended x) s = inside-free x (x .inside) refl s
   ends-free (ChipErasing e) s = hand-free e _ (chip-erasing p bits e s)
+  ends-free (InOneTime i) s = entered-free i s
 
   none-ends : (n : ℕ) (m : Moment) → operationSound p bits (m .operation) ≡ true → someEndProtected p bits n m ≡ false
   unfolding someEndProtected tick
@@ -58,5 +64,5 @@ never-ends-protected p r l n s = none-ends p (r .bits) n (now r l) (sound-operat
 
 -- the condition is about something
 pub met : Met
-unfolding someEndProtected endsProtected runningOf runningInside operationTick insideTick tick blockWritten protectedBy has pack setOf some unitOf blockIn
+unfolding someEndProtected endsProtected runningOf runningInside operationTick insideTick tick barred protectedBy has pack setOf some unitOf blockIn
 met l = (refl, refl)

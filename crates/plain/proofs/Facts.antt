@@ -10,21 +10,23 @@ use Rattle.blocks.proofs.Laws.{some-not}
 use Rattle.geometry.specs.declared.Part.{Part}
 use Rattle.geometry.specs.Parts.{blockCount, bankOfBlock}
 use Rattle.protection.specs.declared.Protection.{Protection}
-use Rattle.protection.specs.Protection.{protected, strayBits}
+use Rattle.protection.specs.Protection.{strayBits}
 use Rattle.protection.proofs.Stray.{stray-fresh}
 use Rattle.plain.specs.declared.Program.{Program}
 use Rattle.plain.specs.declared.Erase.{Erase}
 use Rattle.plain.specs.declared.SuspendedErase.{SuspendedErase}
 use Rattle.plain.specs.declared.Recovery.{Recovery}
 use Rattle.plain.specs.declared.Inside.the-variants.{Runs}
+use Rattle.plain.specs.declared.Suspension.{Suspension}
+use Rattle.plain.specs.declared.Suspension.the-variants.{Unsuspended, OfErase, Entered}
 use Rattle.plain.specs.declared.Operation.{Operation}
-use Rattle.plain.specs.declared.Operation.the-variants.{Programming, ProgramSuspended, Window, Erasing, Recovering, EraseSuspended, ChipErasing}
+use Rattle.plain.specs.declared.Operation.the-variants.{Programming, ProgramSuspended, Window, Erasing, Recovering, EraseSuspended, ChipErasing, InOneTime}
 use Rattle.plain.specs.declared.Device.{Device}
 use Rattle.plain.specs.Figures.{programTime, windowTime, eraseTime, recoveryTime, chipTime, runningCurrent, clockLimit}
 use Rattle.plain.specs.Operations.{runningOf, suspensionOf}
-use Rattle.plain.specs.Programs.{liesIn, blockWritten}
+use Rattle.plain.specs.Programs.{liesIn, blockWritten, barred}
 use Rattle.plain.specs.Record.{fresh}
-use Rattle.plain.specs.Sound.{meterSound, timeSound, programSound, erasable, mayErase, mayChipErase, listSound, chipListSound, lowest, insideSound, operationSound, isStill, stillCommand, commandSound, sound}
+use Rattle.plain.specs.Sound.{meterSound, timeSound, arraySound, programSound, erasable, mayErase, mayChipErase, listSound, chipListSound, lowest, insideSound, enteredSound, operationSound, isStill, stillCommand, commandSound, sound}
 use Rattle.plain.specs.SuspendedProgram.{SuspendedStaysSound}
 use Rattle.plain.proofs.Tools.{both-left, both-right, clash}
 use Rattle.plain.proofs.Lists.{only-at}
@@ -71,35 +73,40 @@ module _ (p : Part) (r : Device) (s : sound p r ≡ true) where
 
 -- ---- a program
 
-pub record ProgramFacts (p : Part) (bits : Protection) (q : Program) : Type 0 where
+-- beside what is suspended, or in the one-time block
+pub record ProgramFacts (p : Part) (bits : Protection) (s : Suspension) (q : Program) : Type 0 where
+  pub array : arraySound s (q .writes) ≡ true
   pub in-part : liesIn p (q .writes) ≡ true
   pub some-left : 1 ≤ q .left
   pub most-left : q .left ≤ programTime p
-  pub unprotected : protected bits (blockWritten p (q .writes)) ≡ false
+  pub free : barred p bits (q .writes) ≡ false
 
-program-facts : (p : Part) (bits : Protection) (q : Program) → programSound p bits q ≡ true → ProgramFacts p bits q
+program-facts : (p : Part) (bits : Protection) (s : Suspension) (q : Program) → programSound p bits s q ≡ true → ProgramFacts p bits s q
 unfolding programSound
-program-facts p bits q s =
+program-facts p bits s q h =
+    let right = arraySound s (q .writes) in
     let in-range = liesIn p (q .writes) in
     let timely = timeSound (q .left) (programTime p) in
-    let time = both-left timely _ (both-right in-range _ s) in
+    let rest = both-right right _ h in
+    let time = both-left timely _ (both-right in-range _ rest) in
     record {
-      in-part = both-left in-range _ s;
+      array = both-left right _ h;
+      in-part = both-left in-range _ rest;
       some-left = leb-true _ _ (both-left (leb 1 (q .left)) _ time);
       most-left = leb-true _ _ (both-right (leb 1 (q .left)) _ time);
-      unprotected = not-true (protected bits (blockWritten p (q .writes))) (both-right timely _ (both-right in-range _ s));
+      free = not-true (barred p bits (q .writes)) (both-right timely _ (both-right in-range _ rest));
     }
 
-pub programming : (p : Part) (bits : Protection) (q : Program) → operationSound p bits (Programming q) ≡ true → ProgramFacts p bits q
+pub programming : (p : Part) (bits : Protection) (q : Program) → operationSound p bits (Programming q) ≡ true → ProgramFacts p bits Unsuspended q
 unfolding operationSound
-programming = program-facts
+programming p bits = program-facts p bits Unsuspended
 
 -- one that is suspended is as sound as if it ran
 pub suspended-sound : (p : Part) → SuspendedStaysSound p
 unfolding operationSound
 suspended-sound p bits q = refl
 
-pub program-suspended : (p : Part) (bits : Protection) (q : Program) → operationSound p bits (ProgramSuspended q) ≡ true → ProgramFacts p bits q
+pub program-suspended : (p : Part) (bits : Protection) (q : Program) → operationSound p bits (ProgramSuspended q) ≡ true → ProgramFacts p bits Unsuspended q
 program-suspended p bits q s = programming p bits q (sym (suspended-sound p bits q) ∙ s)
 
 -- ---- an erase
@@ -193,16 +200,22 @@ chip-erasing p bits e s =
 -- ---- a program inside a suspended erase
 
 pub record InsideFacts (p : Part) (bits : Protection) (e : Erase) (q : Program) : Type 0 where
-  pub program : ProgramFacts p bits q
+  pub program : ProgramFacts p bits (OfErase e) q
   pub off-list : has (e .list) (blockWritten p (q .writes)) ≡ false
 
 pub inside-runs : (p : Part) (bits : Protection) (s : SuspendedErase) (q : Program) → operationSound p bits (EraseSuspended s) ≡ true → s .inside ≡ Runs q → InsideFacts p bits (s .erase) q
 unfolding operationSound insideSound
 inside-runs p bits s q h told =
     record {
-      program = program-facts p bits q (both-left (programSound p bits q) _ runs);
-      off-list = not-true (has (s .erase .list) (blockWritten p (q .writes))) (both-right (programSound p bits q) _ runs);
+      program = program-facts p bits _ q (both-left (programSound p bits (OfErase (s .erase)) q) _ runs);
+      off-list = not-true (has (s .erase .list) (blockWritten p (q .writes))) (both-right (programSound p bits (OfErase (s .erase)) q) _ runs);
     }
   where
     runs : insideSound p bits (s .erase) (Runs q) ≡ true
     runs = rw told at (both-right (operationSound p bits (Erasing (s .erase))) (insideSound p bits (s .erase) (s .inside)) h)
+
+-- ---- a program in the one-time block
+
+pub entered-runs : (p : Part) (bits : Protection) (q : Program) → operationSound p bits (InOneTime (Runs q)) ≡ true → ProgramFacts p bits Entered q
+unfolding operationSound enteredSound
+entered-runs p bits = program-facts p bits Entered

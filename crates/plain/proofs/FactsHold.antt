@@ -15,11 +15,13 @@ use Rattle.plain.specs.declared.Erase.{Erase}
 use Rattle.plain.specs.declared.Inside.the-variants.{Nothing, Runs}
 use Rattle.plain.specs.declared.Recovery.{Recovery}
 use Rattle.plain.specs.declared.Operation.{Operation}
-use Rattle.plain.specs.declared.Operation.the-variants.{Idle, Programming, Window, Erasing, Recovering, EraseSuspended, ChipErasing}
+use Rattle.plain.specs.declared.Operation.the-variants.{Idle, Programming, Window, Erasing, Recovering, EraseSuspended, ChipErasing, InOneTime}
+use Rattle.plain.specs.declared.Suspension.{Suspension}
+use Rattle.plain.specs.declared.Suspension.the-variants.{Unsuspended, Entered}
 use Rattle.plain.specs.declared.Command.{Command}
 use Rattle.plain.specs.Figures.{programTime, windowTime, eraseTime, recoveryTime, chipTime, runningCurrent, clockLimit}
 use Rattle.plain.specs.Record.{device, suspended}
-use Rattle.plain.specs.Sound.{meterSound, timeSound, programSound, mayErase, mayChipErase, listSound, chipListSound, lowest, insideSound, operationSound, commandSound, sound}
+use Rattle.plain.specs.Sound.{meterSound, timeSound, programSound, mayErase, mayChipErase, listSound, chipListSound, lowest, insideSound, enteredSound, operationSound, commandSound, sound}
 use Rattle.plain.proofs.Tools.{both}
 use Rattle.plain.proofs.Lists.{only-make}
 use Rattle.plain.proofs.Facts.{ProgramFacts, EraseFacts, BlockEraseFacts, RecoveryFacts, InsideFacts}
@@ -44,11 +46,12 @@ sound-holds p m c o bits h g f e = rw (h, g, f, e)
 -- ---- the operations
 
 module _ (p : Part) (bits : Protection) where
-  program-holds : (q : Program) → ProgramFacts p bits q → programSound p bits q ≡ true
+  program-holds : (s : Suspension) (q : Program) → ProgramFacts p bits s q → programSound p bits s q ≡ true
   unfolding programSound
-  program-holds q f =
-      both _ _ (f .in-part)
-      (both _ _ (time-holds (q .left) (programTime p) (f .some-left) (f .most-left)) (clear _ (f .unprotected)))
+  program-holds s q f =
+      both _ _ (f .array)
+      (both _ _ (f .in-part)
+      (both _ _ (time-holds (q .left) (programTime p) (f .some-left) (f .most-left)) (clear _ (f .free))))
 
   list-holds : (e : Erase) (full : ℕ) → BlockEraseFacts p bits e full → listSound p bits e ≡ true
   unfolding listSound
@@ -61,9 +64,17 @@ module _ (p : Part) (bits : Protection) where
   unfolding operationSound
   idle-holds = refl
 
-  pub programming-holds : (q : Program) → ProgramFacts p bits q → operationSound p bits (Programming q) ≡ true
+  pub programming-holds : (q : Program) → ProgramFacts p bits Unsuspended q → operationSound p bits (Programming q) ≡ true
   unfolding operationSound
-  programming-holds = program-holds
+  programming-holds = program-holds Unsuspended
+
+  pub entered-holds : operationSound p bits (InOneTime Nothing) ≡ true
+  unfolding operationSound enteredSound
+  entered-holds = refl
+
+  pub programming-entered-holds : (q : Program) → ProgramFacts p bits Entered q → operationSound p bits (InOneTime (Runs q)) ≡ true
+  unfolding operationSound enteredSound
+  programming-entered-holds = program-holds Entered
 
   pub window-holds : (e : Erase) → BlockEraseFacts p bits e (windowTime p) → ((b : ℕ) → b < e .hand → has (e .list) b ≡ false) → operationSound p bits (Window e) ≡ true
   unfolding operationSound lowest
@@ -87,7 +98,7 @@ module _ (p : Part) (bits : Protection) where
   pub inside-holds : (e : Erase) (q : Program) → BlockEraseFacts p bits e (eraseTime p) → InsideFacts p bits e q
       → operationSound p bits (EraseSuspended (suspended e (Runs q))) ≡ true
   unfolding operationSound insideSound
-  inside-holds e q f g = both _ _ (erasing-holds e f) (both _ _ (program-holds q (g .program)) (clear _ (g .off-list)))
+  inside-holds e q f g = both _ _ (erasing-holds e f) (both _ _ (program-holds _ q (g .program)) (clear _ (g .off-list)))
 
   pub chip-holds : (e : Erase) → EraseFacts p bits e (chipTime p) → operationSound p bits (ChipErasing e) ≡ true
   unfolding operationSound chipListSound

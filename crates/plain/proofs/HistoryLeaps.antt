@@ -11,9 +11,10 @@ use Rattle.blocks.specs.declared.Blocks.{Blocks}
 use Rattle.geometry.specs.declared.Part.{Part}
 use Rattle.plain.specs.declared.Refusal.{Refusal}
 use Rattle.plain.specs.declared.Command.{Command}
-use Rattle.plain.specs.Events.{Event, read, write, wait, cut, Turn}
+use Rattle.plain.specs.Events.{Event, read, write, wait, cut, range, Turn}
 use Rattle.plain.specs.Figures.{programTime, windowTime, eraseTime, recoveryTime, chipTime}
-use Rattle.plain.specs.History.{Doing, nothing, programs, waits, erases, recovers, wipes, rests, programsIn, Told, telling, Kind, taken, lost, dropped, unheard, kind, draws, goes, comes, microsecond, time, wroteAs, waitedAs, cutAs, tell, told}
+use Rattle.plain.specs.Doings.{Doing, nothing, programs, waits, erases, recovers, wipes, rests, programsIn, entered, programsEntered, draws, goes, comes}
+use Rattle.plain.specs.History.{Told, telling, Kind, taken, lost, dropped, unheard, kind, microsecond, time, wroteAs, waitedAs, cutAs, tell, told}
 use Rattle.plain.specs.Holds.{Fact}
 use Rattle.plain.proofs.Leaps.{Due, never, due}
 
@@ -27,6 +28,8 @@ toGo p (recovers l b g n) = due (recoveryTime p - n)
 toGo p (wipes l b g) = due (chipTime p - g)
 toGo p (rests l b g) = never
 toGo p (programsIn d pg l b g) = due (programTime p - pg)
+toGo p entered = never
+toGo p (programsEntered d g) = due (programTime p - g)
 
 -- the same with k microseconds more gone
 unfoldable pub further : Doing → ℕ → Doing
@@ -38,9 +41,11 @@ further (recovers l b g n) k = recovers l b g (n + k)
 further (wipes l b g) k = wipes l b (g + k)
 further (rests l b g) k = rests l b g
 further (programsIn d pg l b g) k = programsIn d (pg + k) l b g
+further entered k = entered
+further (programsEntered d g) k = programsEntered d (g + k)
 
 unfoldable pub later : Part → ℕ → Told → Told
-later p k h = telling (h .command) (further (h .doing) k) (h .dyb) (h .ppb) (h .facts) (h .clock + k) (h .charge + k * draws p (h .doing))
+later p k h = telling (h .command) (further (h .doing) k) (h .dyb) (h .ppb) (h .sealed) (h .facts) (h .clock + k) (h .charge + k * draws p (h .doing))
 
 -- ---- nothing comes to pass
 
@@ -53,9 +58,9 @@ record Counting (p : Part) (at : ℕ → Doing) (full rate : ℕ) : Type 0 where
 not-yet : (g full : ℕ) → suc g < full → eqb (suc g) full ≡ false
 not-yet g full h = ne-eqb (suc g) full (λ e. omega (arith, e, h))
 
-module _ (p : Part) (c : Command) (y q : Blocks) where
+module _ (p : Part) (c : Command) (y q : Blocks) (s : Bool) where
   abbrev at-time : Doing → List Fact → ℕ → ℕ → Told
-  at-time d fs t e = telling c d y q fs t e
+  at-time d fs t e = telling c d y q s fs t e
 
   counted : (at : ℕ → Doing) (full rate : ℕ) → Counting p at full rate → (k g : ℕ) → g + k < full → (fs : List Fact) (t e : ℕ)
       → time p k (at-time (at g) fs t e) ≡ at-time (at (g + k)) fs (t + k) (e + k * rate)
@@ -124,6 +129,10 @@ module _ (p : Part) (c : Command) (y q : Blocks) where
   quiet-time (programsIn d pg s b g) l x k h fs t e =
       let i : programTime p - pg ≡ l = cc in
       counted (λ n. programsIn d n s b g) (programTime p) _ (record { on = λ n m. rw (not-yet n (programTime p) m); quiet = λ n m f. rw (not-yet n (programTime p) m); rates = λ n. refl }) k pg (omega arith) fs t e
+  quiet-time entered l x k h fs t e = let z : _≡_ {A = ℕ} 0 1 = cc in absurd (omega arith)
+  quiet-time (programsEntered d g) l x k h fs t e =
+      let i : programTime p - g ≡ l = cc in
+      counted (programsEntered d) (programTime p) _ (record { on = λ n m. rw (not-yet n (programTime p) m); quiet = λ n m f. rw (not-yet n (programTime p) m); rates = λ n. refl }) k g (omega arith) fs t e
 
   still-time : (d : Doing) → toGo p d ≡ never → (k : ℕ) (fs : List Fact) (t e : ℕ) → time p k (at-time d fs t e) ≡ later p k (at-time d fs t e)
   unfolding toGo later further goes comes
@@ -135,6 +144,8 @@ module _ (p : Part) (c : Command) (y q : Blocks) where
   still-time (wipes s b g) x k fs t e = let z : _≡_ {A = ℕ} 0 1 = cc in absurd (omega arith)
   still-time (rests s b g) x k fs t e = stayed (rests s b g) refl (λ f. refl) k fs t e
   still-time (programsIn d pg s b g) x k fs t e = let z : _≡_ {A = ℕ} 0 1 = cc in absurd (omega arith)
+  still-time entered x k fs t e = stayed entered refl (λ f. refl) k fs t e
+  still-time (programsEntered d g) x k fs t e = let z : _≡_ {A = ℕ} 0 1 = cc in absurd (omega arith)
 
 -- ---- leaps
 
@@ -160,7 +171,7 @@ quick-time p zero n h = refl
 quick-time p (suc fuel) n h = go (toGo p (h .doing)) refl (quick-time p fuel)
   where
     quiet : (l k : ℕ) → toGo p (h .doing) ≡ due l → k < l → time p k h ≡ later p k h
-    quiet l k e m = quiet-time p (h .command) (h .dyb) (h .ppb) (h .doing) l e k m (h .facts) (h .clock) (h .charge)
+    quiet l k e m = quiet-time p (h .command) (h .dyb) (h .ppb) (h .sealed) (h .doing) l e k m (h .facts) (h .clock) (h .charge)
 
     next : (l : ℕ) → toGo p (h .doing) ≡ due l → l ≤ n → 0 < l → time p (n - l) (microsecond p (later p (l - 1) h)) ≡ time p n h
     next l e m k =
@@ -177,7 +188,7 @@ quick-time p (suc fuel) n h = go (toGo p (h .doing)) refl (quick-time p fuel)
             | false ↦ elim (ltb 0 l) [ true ↦ quickTime p fuel (n - l) (microsecond p (later p (l - 1) h)) | false ↦ time p n h ]
           ]
         ]) ≡ time p n h
-    go never e rest = sym (still-time p (h .command) (h .dyb) (h .ppb) (h .doing) e n (h .facts) (h .clock) (h .charge))
+    go never e rest = sym (still-time p (h .command) (h .dyb) (h .ppb) (h .sealed) (h .doing) e n (h .facts) (h .clock) (h .charge))
     go (due l) e rest = at (ltb n l) refl (ltb 0 l) refl
       where
         at : (b : Bool) → ltb n l ≡ b → (c : Bool) → ltb 0 l ≡ c
@@ -199,6 +210,7 @@ quickTell p h (read a) n = h
 quickTell p h (write a w) n = wroteAs p h (kind n) a w
 quickTell p h (wait m) n = quickWaited p h (kind n) m
 quickTell p h (cut debris) n = cutAs p h (kind n) debris
+quickTell p h (range first count) n = h
 
 unfoldable pub quickTold : Part → Told → List Turn → Told
 quickTold p h [] = h
@@ -217,6 +229,7 @@ quick-tell p h (read a) n = refl
 quick-tell p h (write a w) n = refl
 quick-tell p h (wait m) n = quick-waited p h (kind n) m
 quick-tell p h (cut debris) n = refl
+quick-tell p h (range first count) n = refl
 
 pub quick-told : (p : Part) (h : Told) (ts : List Turn) → told p h ts ≡ quickTold p h ts
 unfolding told quickTold

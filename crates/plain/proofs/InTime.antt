@@ -8,7 +8,7 @@ use Rattle.plain.specs.declared.Program.{Program}
 use Rattle.plain.specs.declared.Erase.{Erase}
 use Rattle.plain.specs.declared.Inside.the-variants.{Nothing, Runs}
 use Rattle.plain.specs.declared.Operation.{Operation}
-use Rattle.plain.specs.declared.Operation.the-variants.{Idle, Programming, ProgramSuspended, Window, Erasing, Recovering, EraseSuspended, ChipErasing}
+use Rattle.plain.specs.declared.Operation.the-variants.{Idle, Programming, ProgramSuspended, Window, Erasing, Recovering, EraseSuspended, ChipErasing, InOneTime}
 use Rattle.plain.specs.Figures.{eraseTime, chipTime, runningCurrent, standbyCurrent}
 use Rattle.plain.specs.Operations.{runningOf, runningInside}
 use Rattle.plain.specs.Programs.{finished}
@@ -30,6 +30,10 @@ pub erase-still : (p : Part) (e : Erase) → Still p (EraseSuspended (suspended 
 unfolding runningOf runningInside current operationTick insideTick lentTick
 erase-still p e = record { draws = refl; stays = refl; keeps = λ l. refl }
 
+pub entered-still : (p : Part) → Still p (InOneTime Nothing) (standbyCurrent p)
+unfolding runningOf runningInside current operationTick insideTick lentTick
+entered-still p = record { draws = refl; stays = refl; keeps = λ l. refl }
+
 -- ---- running
 
 pub program-running : (p : Part) (q : Program)
@@ -48,6 +52,18 @@ pub inside-running : (p : Part) (e : Erase) (q : Program)
     → Running p (λ l. EraseSuspended (suspended e (Runs (programLeft q l)))) (runningCurrent p) (EraseSuspended (suspended e Nothing)) (finished (q .writes))
 unfolding runningOf runningInside current operationTick insideTick lentTick
 inside-running p e q =
+    record {
+      draws = λ n. refl;
+      steps = λ n h. rw (lt-leb n 1 h);
+      keeps = λ n h l. rw (lt-leb n 1 h);
+      ends = refl;
+      finishes = λ l. refl;
+    }
+
+pub entered-running : (p : Part) (q : Program)
+    → Running p (λ l. InOneTime (Runs (programLeft q l))) (runningCurrent p) (InOneTime Nothing) (finished (q .writes))
+unfolding runningOf runningInside current operationTick insideTick lentTick
+entered-running p q =
     record {
       draws = λ n. refl;
       steps = λ n h. rw (lt-leb n 1 h);

@@ -3,10 +3,7 @@ use Prim.Native.Nat.{ℕ}
 use mathlib.Core.Path.{_≡_}
 use mathlib.Core.Bool.{Bool, true, false}
 use native.Mathlib.Omega.{arith}
-use lib.ListN.{length}
-use borrow.Author.Tests.{eqb-true, eq-eqb, ne-eqb}
 use Rattle.geometry.specs.declared.Part.{Part}
-use Rattle.geometry.specs.Parts.{wordCount}
 use Rattle.plain.specs.declared.Refusal.{Refusal}
 use Rattle.plain.specs.declared.Refusal.the-variants.{State, Cells}
 use Rattle.plain.specs.declared.Device.{Device}
@@ -14,7 +11,8 @@ use Rattle.plain.specs.declared.Entry.the-variants.{Admitted, Barred}
 use Rattle.plain.specs.Lent.{Lent, isWhole}
 use Rattle.plain.specs.Sound.{sound}
 use Rattle.plain.specs.Machine.{Outcome, refused, entry, climbed, ladder, Fit}
-use Rattle.plain.proofs.Tools.{by-cases, clash}
+use Rattle.plain.proofs.Lents.{whole-true, true-whole}
+use Rattle.plain.proofs.Tools.{by-cases}
 
 module _ (p : Part) (r : Device) (l : Lent) where
   -- ---- the entry
@@ -23,19 +21,19 @@ module _ (p : Part) (r : Device) (l : Lent) where
   unfolding entry
   entry-state s = rw s
 
-  pub entry-cells : sound p r ≡ true → (length (l .cells) ≡ wordCount p → ⊥) → entry p r l ≡ Barred Cells
+  pub entry-cells : sound p r ≡ true → isWhole p l ≡ false → entry p r l ≡ Barred Cells
   unfolding entry
-  entry-cells s n = rw (s, ne-eqb (length (l .cells)) (wordCount p) n)
+  entry-cells s n = rw (s, n)
 
   pub entry-admitted : Fit p r l → entry p r l ≡ Admitted
   unfolding entry
-  entry-admitted f = rw (f .sound, eq-eqb (length (l .cells)) (wordCount p) (f .whole))
+  entry-admitted f = rw (f .sound, true-whole p l (f .whole))
 
   -- what holds of each answer of it holds of its answer
-  pub by-entry : {P : Type 0} → (sound p r ≡ false → P) → (sound p r ≡ true → (length (l .cells) ≡ wordCount p → ⊥) → P) → (Fit p r l → P) → P
+  pub by-entry : {P : Type 0} → (sound p r ≡ false → P) → (sound p r ≡ true → isWhole p l ≡ false → P) → (Fit p r l → P) → P
   by-entry f g h =
       by-cases (sound p r)
-      (λ s. by-cases (isWhole p l) (λ e. h (record { sound = s; whole = eqb-true _ _ e })) (λ e. g s (λ d. clash (eq-eqb _ _ d) e)))
+      (λ s. by-cases (isWhole p l) (λ e. h (record { sound = s; whole = whole-true p l e })) (λ e. g s e))
       f
 
   -- an admitted event's record is sound, and its cells are whole

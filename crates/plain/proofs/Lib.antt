@@ -1,6 +1,7 @@
 pub mod Tools
 pub mod Refusals
 pub mod FigureLaws
+pub mod Lents
 pub mod Programs
 pub mod Ladder
 pub mod Ticks

@@ -6,7 +6,7 @@ use lib.Dec.{eqb, ltb}
 use borrow.Author.Tests.{eq-eqb, ltb-true, not-true}
 use Rattle.geometry.specs.declared.Part.{Part}
 use Rattle.plain.specs.declared.Refusal.{Refusal}
-use Rattle.plain.specs.declared.Refusal.the-variants.{Done, State, Cells, Address, Clock, Debris, Busy, Sequence, Bank, Protected, Suspended, Locked, Raise}
+use Rattle.plain.specs.declared.Refusal.the-variants.{Done, State, Cells, Address, Clock, Debris, Busy, Sequence, Bank, Protected, Suspended, Locked, OtpLocked, Raise}
 use Rattle.plain.specs.Ends.{NoneAnswers12}
 use Rattle.plain.specs.Machine.{step}
 use Rattle.plain.specs.Refusals.{number, TwelveUnused}
@@ -26,6 +26,7 @@ in-range Bank = refl
 in-range Protected = refl
 in-range Suspended = refl
 in-range Locked = refl
+in-range OtpLocked = refl
 in-range Raise = refl
 
 pub number-below : (n : Refusal) → number n < 15

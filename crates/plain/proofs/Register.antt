@@ -4,9 +4,9 @@ use mathlib.Core.Bool.{true}
 use Rattle.geometry.specs.declared.Part.{Part}
 use Rattle.plain.specs.declared.Inside.the-variants.{Nothing}
 use Rattle.plain.specs.declared.Operation.{Operation}
-use Rattle.plain.specs.declared.Operation.the-variants.{Idle, ProgramSuspended, EraseSuspended}
+use Rattle.plain.specs.declared.Operation.the-variants.{Idle, ProgramSuspended, EraseSuspended, InOneTime}
 use Rattle.plain.specs.declared.Suspension.{Suspension}
-use Rattle.plain.specs.declared.Suspension.the-variants.{Unsuspended, OfProgram, OfErase}
+use Rattle.plain.specs.declared.Suspension.the-variants.{Unsuspended, OfProgram, OfErase, Entered}
 use Rattle.plain.specs.declared.Command.{Command}
 use Rattle.plain.specs.declared.Command.the-variants.{Ground, Entering, Reads}
 use Rattle.plain.specs.Operations.{runningOf, runningInside, suspensionOf}
@@ -37,9 +37,11 @@ unfoldable pub standing : Suspension → Operation
 standing Unsuspended = Idle
 standing (OfProgram q) = ProgramSuspended q
 standing (OfErase e) = EraseSuspended (suspended e Nothing)
+standing Entered = InOneTime Nothing
 
 pub command-standing : (p : Part) (s : Suspension) (c : Command) → commandSound p (standing s) c ≡ stillCommand p s c
 unfolding commandSound standing runningOf runningInside suspensionOf isStill
 command-standing p Unsuspended c = refl
 command-standing p (OfProgram q) c = refl
 command-standing p (OfErase e) c = refl
+command-standing p Entered c = refl

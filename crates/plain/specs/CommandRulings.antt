@@ -1,5 +1,5 @@
 -- The table of rulings, "Command cycles".
-use mathlib.Core.Bool.{true}
+use mathlib.Core.Bool.{true, false}
 use mathlib.Core.List.{List, [], _∷_, _++_}
 use lib.Dec.{ltb}
 use lib.ListN.{set}
@@ -66,7 +66,7 @@ waitKeepsCommand =
 -- 78H with the lock set is DONE; LOCKED is given by every completed PPB sequence, also where no bit would change; 60H is DONE
 abbrev lockedSequences : Row
 lockedSequences =
-    runs (standing Ground Idle (bits emptyOf emptyOf true)) blank (takes (enters 0x78 ++ enters 0x60 ++ (write 0 0x60 ∷ [])) ++ refuses 11 (write 0 0x40)) [] 0 0
+    runs (standing Ground Idle (bits emptyOf emptyOf true false)) blank (takes (enters 0x78 ++ enters 0x60 ++ (write 0 0x60 ∷ [])) ++ refuses 11 (write 0 0x40)) [] 0 0
 
 -- 68H names the block, and 48H must lie in it
 abbrev ppbOtherBlock : Row
@@ -103,7 +103,7 @@ ppbAlone = runs (guarded (only 11) (only 15)) blank (takes (enters 0x90) ++ give
 
 -- bit 0 of a 58H read is the DYB alone, bit 1 the lock
 abbrev dybAlone : Row
-dybAlone = runs (standing Ground Idle (bits (only 11) (only 15) true)) blank (takes (enters 0x58) ++ gives 258 3 ++ gives 514 2) [] 0 0
+dybAlone = runs (standing Ground Idle (bits (only 11) (only 15) true false)) blank (takes (enters 0x58) ++ gives 258 3 ++ gives 514 2) [] 0 0
 
 -- with every PPB set: on the small part 02H shows those of blocks 0, 11, 15 and every fourth to 259, and no other block has such a word
 abbrev ppbsShown : Row

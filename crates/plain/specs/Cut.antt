@@ -12,17 +12,20 @@ use Rattle.plain.specs.declared.Program.{Program}
 use Rattle.plain.specs.declared.Inside.{Inside}
 use Rattle.plain.specs.declared.Inside.the-variants.{Nothing, Runs}
 use Rattle.plain.specs.declared.Operation.{Operation}
-use Rattle.plain.specs.declared.Operation.the-variants.{Idle, Programming, ProgramSuspended, Window, Erasing, Recovering, EraseSuspended, ChipErasing}
+use Rattle.plain.specs.declared.Operation.the-variants.{Idle, Programming, ProgramSuspended, Window, Erasing, Recovering, EraseSuspended, ChipErasing, InOneTime}
 use Rattle.plain.specs.declared.Command.the-variants.{Ground}
 use Rattle.plain.specs.declared.Device.{Device}
+use Rattle.plain.specs.declared.Array.the-variants.{Main}
+use Rattle.plain.specs.declared.Spot.{Spot}
+use Rattle.plain.specs.declared.Spot.the-variants.{NoWord, In}
 use Rattle.plain.specs.declared.Place.{Place}
 use Rattle.plain.specs.declared.Place.the-variants.{Nowhere, At}
 use Rattle.plain.specs.declared.BegunProgram.{BegunProgram}
 use Rattle.plain.specs.declared.BegunProgram.the-variants.{NoProgram, Writes}
 use Rattle.plain.specs.Choice.{if_then_else_}
 use Rattle.plain.specs.Figures.{programTime, eraseTime, chipTime}
-use Rattle.plain.specs.Lent.{Lent, withCells}
-use Rattle.plain.specs.Programs.{firstWord, debrisWords, cutOff}
+use Rattle.plain.specs.Lent.{Lent, withArray}
+use Rattle.plain.specs.Programs.{firstWord, arrayWritten, debrisWords, cutOff}
 use Rattle.plain.specs.Record.{device}
 
 -- "An operation has begun when its time left is below its full time; a window has not begun."; document 02, request 1: "a cut in
@@ -44,6 +47,7 @@ begunBlock p (Erasing e) = ifBegun (e .left) (eraseTime p) (e .hand)
 begunBlock p (Recovering r) = ifBegun (r .erase .left) (eraseTime p) (r .erase .hand)
 begunBlock p (EraseSuspended s) = ifBegun (s .erase .left) (eraseTime p) (s .erase .hand)
 begunBlock p (ChipErasing e) = ifBegun (e .left) (chipTime p) (e .hand)
+begunBlock p (InOneTime i) = Nowhere
 
 abbrev pub programBegun : Part → Program → BegunProgram
 programBegun p q = if begun (q .left) (programTime p) then Writes (q .writes) else NoProgram
@@ -61,11 +65,12 @@ begunProgram p (Erasing e) = NoProgram
 begunProgram p (Recovering r) = NoProgram
 begunProgram p (EraseSuspended s) = begunInside p (s .inside)
 begunProgram p (ChipErasing e) = NoProgram
+begunProgram p (InOneTime i) = begunInside p i
 
--- the word that such a program is named by
-unfoldable pub wordOf : BegunProgram → Place
-wordOf NoProgram = Nowhere
-wordOf (Writes d) = At (firstWord d)
+-- the word that such a program is named by, and its array
+unfoldable pub wordOf : BegunProgram → Spot
+wordOf NoProgram = NoWord
+wordOf (Writes d) = In (arrayWritten d) (firstWord d)
 
 -- ---- "A begun erase needs as many debris words as the block in hand has; a begun program needs one, after those."
 
@@ -84,7 +89,7 @@ debrisNeeded p o = blockDebris p (begunBlock p o) + programDebris (begunProgram 
 
 unfoldable pub blockCut : Part → Place → (debris : List ℕ) → Lent → Lent
 blockCut p Nowhere debris l = l
-blockCut p (At b) debris l = withCells l (littered (l .cells) (firstOf p b) (sizeOf p b) debris)
+blockCut p (At b) debris l = withArray Main l (littered (l .cells) (firstOf p b) (sizeOf p b) debris)
 
 unfoldable pub programCut : BegunProgram → (debris : List ℕ) → Lent → Lent
 programCut NoProgram debris l = l
@@ -94,6 +99,7 @@ unfoldable pub cutLent : Part → Operation → (debris : List ℕ) → Lent →
 cutLent p o debris l =
     programCut (begunProgram p o) (drop (blockDebris p (begunBlock p o)) debris) (blockCut p (begunBlock p o) debris l)
 
--- "Then no operation, command or suspension remains, all DYBs and the PPB lock bit are 0, PPBs, clock and charge stand."
+-- "Then no operation, command or suspension remains, all DYBs and the PPB lock bit are 0, PPBs, clock and charge stand."; document 02,
+-- request 4: "A cut or reset exits and leaves the locks as they are."
 abbrev pub cutDevice : Device → Device
 cutDevice r = device (r .meter) Ground Idle (afterCut (r .bits))

@@ -17,6 +17,10 @@ firstUnlock a w = isAt a 0x555 && is w 0xAA
 abbrev pub secondUnlock : (address word : ℕ) → Bool
 secondUnlock a w = isAt a 0x2AA && is w 0x55
 
+-- the address of the one-time block's lock, OW in Table 6 of 000: 1AH, by the low 8 bits
+abbrev pub isLockAddress : (address : ℕ) → Bool
+isLockAddress a = eqb (a % 256) 0x1A
+
 -- "48H: the next write's low four data bits, 1 or 0"
 abbrev pub isDyb : (word value : ℕ) → Bool
 isDyb w value = eqb (w % 16) value

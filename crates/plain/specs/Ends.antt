@@ -14,18 +14,18 @@ use Rattle.plain.specs.Events.{Event}
 use Rattle.plain.specs.Lent.{Lent}
 use Rattle.plain.specs.Machine.{now, step, run}
 use Rattle.plain.specs.Operations.{runningOf}
-use Rattle.plain.specs.Programs.{blockWritten}
+use Rattle.plain.specs.Programs.{barred}
 use Rattle.plain.specs.Record.{fresh}
 use Rattle.plain.specs.Refusals.{number}
 use Rattle.plain.specs.Sound.{sound}
 use Rattle.plain.specs.Time.{Moment, last, tick}
 
--- ---- "an operation ends in a block then protected"
+-- ---- "an operation ends in a block then protected", or a program in a one-time word then locked
 
 -- does this microsecond end one so?
 unfoldable pub endsProtected : Part → Protection → Running → Bool
 endsProtected p bits Still = false
-endsProtected p bits (Programs q) = last (q .left) && protected bits (blockWritten p (q .writes))
+endsProtected p bits (Programs q) = last (q .left) && barred p bits (q .writes)
 endsProtected p bits (Waits e) = false
 endsProtected p bits (Erases e) = last (e .left) && protected bits (e .hand)
 endsProtected p bits (Recovers r) = false

@@ -8,16 +8,18 @@ use Rattle.blocks.specs.Blocks.{emptyOf, withOf}
 use Rattle.geometry.specs.declared.Part.the-variants.{Small}
 use Rattle.protection.specs.declared.Protection.{Protection}
 use Rattle.protection.specs.Protection.{bits, freshBits}
+use Rattle.plain.specs.declared.Array.{Array}
+use Rattle.plain.specs.declared.Array.the-variants.{Main, OneTime}
 use Rattle.plain.specs.declared.Program.{Program}
 use Rattle.plain.specs.declared.Erase.{Erase}
 use Rattle.plain.specs.declared.Inside.{Inside}
 use Rattle.plain.specs.declared.Inside.the-variants.{Nothing, Runs}
 use Rattle.plain.specs.declared.Operation.{Operation}
-use Rattle.plain.specs.declared.Operation.the-variants.{Idle, Programming, ProgramSuspended, Window, Erasing, Recovering, EraseSuspended, ChipErasing}
+use Rattle.plain.specs.declared.Operation.the-variants.{Idle, Programming, ProgramSuspended, Window, Erasing, Recovering, EraseSuspended, ChipErasing, InOneTime}
 use Rattle.plain.specs.declared.Command.{Command}
 use Rattle.plain.specs.declared.Command.the-variants.{Ground, Entering, Reads}
-use Rattle.plain.specs.declared.Cycle.the-variants.{Unlock, Unlocked, ProgramData, EraseSetup, EraseUnlock, EraseUnlocked, DybData, PpbSetup, PpbSetting, PpbClearing}
-use Rattle.plain.specs.declared.Reading.the-variants.{Identity, Dybs}
+use Rattle.plain.specs.declared.Cycle.the-variants.{Unlock, Unlocked, ProgramData, EraseSetup, EraseUnlock, EraseUnlocked, DybData, PpbSetup, PpbSetting, PpbClearing, OtpLocking}
+use Rattle.plain.specs.declared.Reading.the-variants.{Identity, Dybs, OtpLock}
 use Rattle.plain.specs.declared.Device.{Device}
 use Rattle.plain.specs.Programs.{writing}
 use Rattle.plain.specs.Record.{program, erase, suspended, recovery}
@@ -41,8 +43,11 @@ judged e = sound Small (e .within) ∷ sound Small (e .beyond) ∷ []
 abbrev doing : Operation → Device
 doing o = standing Ground o freshBits
 
+abbrev programIn : Array → (address left : ℕ) → Program
+programIn y a left = program (writing y a 0) left false
+
 abbrev programAt : (address left : ℕ) → Program
-programAt a left = program (writing a 0) left false
+programAt a left = programIn Main a left
 
 abbrev eraseOf : Blocks → (hand left : ℕ) → Erase
 eraseOf list hand left = erase list hand left false false
@@ -52,6 +57,13 @@ two a b = withOf (only a) b
 
 abbrev resting : Command → Inside → Device
 resting c i = standing c (EraseSuspended (suspended (eraseOf (only 8) 8 1) i)) freshBits
+
+-- in the one-time block: a program of one of its words, and a register
+abbrev there : (address : ℕ) → Operation
+there a = InOneTime (Runs (programIn OneTime a 1))
+
+abbrev entered : Command → Device
+entered c = standing c (InOneTime Nothing) freshBits
 
 abbrev guarding : Operation → Protection → Device
 guarding o b = standing Ground o b
@@ -67,8 +79,8 @@ abbrev pub ranges : List Edge
 ranges =
     edge (doing (Programming (programAt 16383 1))) (doing (Programming (programAt 16384 1)))
     ∷ edge (doing (Erasing (eraseOf (two 262 269) 262 1))) (doing (Erasing (eraseOf (two 262 270) 262 1)))
-    ∷ edge (guarding Idle (bits (only 269) emptyOf false)) (guarding Idle (bits (only 270) emptyOf false))
-    ∷ edge (guarding Idle (bits emptyOf (only 269) false)) (guarding Idle (bits emptyOf (only 319) false))
+    ∷ edge (guarding Idle (bits (only 269) emptyOf false false)) (guarding Idle (bits (only 270) emptyOf false false))
+    ∷ edge (guarding Idle (bits emptyOf (only 269) false false)) (guarding Idle (bits emptyOf (only 319) false false))
     ∷ edge (standing (Entering (PpbSetting 269)) Idle freshBits) (standing (Entering (PpbSetting 270)) Idle freshBits)
     ∷ edge (standing (Reads (Identity 3)) Idle freshBits) (standing (Reads (Identity 4)) Idle freshBits)
     ∷ []
@@ -79,8 +91,8 @@ lists =
     edge (doing (Erasing (eraseOf (only 8) 8 1))) (doing (Erasing (eraseOf emptyOf 8 1)))
     ∷ edge (doing (Erasing (eraseOf (two 8 38) 8 1))) (doing (Erasing (eraseOf (two 8 39) 8 1)))
     ∷ edge (doing (ChipErasing (eraseOf (two 8 39) 8 1))) (doing (ChipErasing (eraseOf (two 8 39) 9 1)))
-    ∷ edge (guarding (Erasing (eraseOf (two 8 9) 8 1)) (bits (only 10) emptyOf false)) (guarding (Erasing (eraseOf (two 8 9) 8 1)) (bits (only 9) emptyOf false))
-    ∷ edge (guarding (ChipErasing (eraseOf (two 8 9) 8 1)) (bits emptyOf (only 10) false)) (guarding (ChipErasing (eraseOf (two 8 9) 8 1)) (bits emptyOf (only 9) false))
+    ∷ edge (guarding (Erasing (eraseOf (two 8 9) 8 1)) (bits (only 10) emptyOf false false)) (guarding (Erasing (eraseOf (two 8 9) 8 1)) (bits (only 9) emptyOf false false))
+    ∷ edge (guarding (ChipErasing (eraseOf (two 8 9) 8 1)) (bits emptyOf (only 10) false false)) (guarding (ChipErasing (eraseOf (two 8 9) 8 1)) (bits emptyOf (only 9) false false))
     ∷ edge (doing (Erasing (eraseOf (two 8 10) 10 1))) (doing (Erasing (eraseOf (two 8 10) 9 1)))
     ∷ []
 
@@ -89,7 +101,7 @@ abbrev pub recoveries : List Edge
 recoveries =
     edge (doing (Recovering (recovery (eraseOf (two 8 38) 38 1) 1))) (doing (Recovering (recovery (eraseOf (two 8 39) 8 1) 1)))
     ∷ edge (doing (Recovering (recovery (eraseOf (two 8 10) 10 1) 1))) (doing (Recovering (recovery (eraseOf (two 8 10) 9 1) 1)))
-    ∷ edge (guarding (Recovering (recovery (eraseOf (two 8 9) 8 1) 1)) (bits (only 10) emptyOf false)) (guarding (Recovering (recovery (eraseOf (two 8 9) 8 1) 1)) (bits (only 9) emptyOf false))
+    ∷ edge (guarding (Recovering (recovery (eraseOf (two 8 9) 8 1) 1)) (bits (only 10) emptyOf false false)) (guarding (Recovering (recovery (eraseOf (two 8 9) 8 1) 1)) (bits (only 9) emptyOf false false))
     ∷ []
 
 -- "in the window it is the lowest"; past it those listed below count as finished
@@ -114,12 +126,13 @@ times =
     ++ timed (λ t. EraseSuspended (suspended (eraseOf (only 8) 8 t) Nothing)) 700000 700001
     ++ timed (λ t. EraseSuspended (suspended (eraseOf (only 8) 8 1) (Runs (programAt 128 t)))) 6 7
     ++ timed (λ t. ChipErasing (eraseOf (only 8) 8 t)) 500000 500001
+    ++ timed (λ t. InOneTime (Runs (programIn OneTime 128 t))) 6 7
 
 -- "a program's block is unprotected and not on a suspended erase list"
 abbrev pub programsFree : List Edge
 programsFree =
-    edge (guarding (Programming (programAt 64 1)) (bits (only 9) emptyOf false)) (guarding (Programming (programAt 64 1)) (bits (only 8) emptyOf false))
-    ∷ edge (guarding (Programming (programAt 64 1)) (bits emptyOf (only 9) false)) (guarding (Programming (programAt 64 1)) (bits emptyOf (only 8) false))
+    edge (guarding (Programming (programAt 64 1)) (bits (only 9) emptyOf false false)) (guarding (Programming (programAt 64 1)) (bits (only 8) emptyOf false false))
+    ∷ edge (guarding (Programming (programAt 64 1)) (bits emptyOf (only 9) false false)) (guarding (Programming (programAt 64 1)) (bits emptyOf (only 8) false false))
     ∷ edge (resting Ground (Runs (programAt 128 1))) (resting Ground (Runs (programAt 127 1)))
     ∷ []
 
@@ -141,8 +154,41 @@ commands =
     ∷ edge (standing (Entering Unlocked) (ProgramSuspended (programAt 64 1)) freshBits) (standing (Entering ProgramData) (ProgramSuspended (programAt 64 1)) freshBits)
     ∷ []
 
+-- document 02, request 4: "OTPLOCKED, in the place of PROTECTED, in soundness too": a customer's word, while the lock is open; no block's
+-- protection has a part in it, and from 256 on it has
+abbrev pub oneTimePrograms : List Edge
+oneTimePrograms =
+    edge (doing (there 128)) (doing (there 127))
+    ∷ edge (guarding (there 128) (bits emptyOf emptyOf true false)) (guarding (there 128) (bits emptyOf emptyOf false true))
+    ∷ edge (guarding (there 200) (bits (only 10) (only 10) false false)) (guarding (Programming (programAt 200 1)) (bits (only 10) (only 10) false false))
+    ∷ edge (guarding (InOneTime (Runs (programAt 256 1))) (bits (only 10) emptyOf false false)) (guarding (InOneTime (Runs (programAt 256 1))) (bits (only 11) emptyOf false false))
+    ∷ []
+
+-- a program writes to the array that mode and address select
+abbrev pub arrays : List Edge
+arrays =
+    edge (doing (there 255)) (doing (InOneTime (Runs (programAt 255 1))))
+    ∷ edge (doing (InOneTime (Runs (programAt 256 1)))) (doing (there 256))
+    ∷ edge (doing (Programming (programAt 128 1))) (doing (Programming (programIn OneTime 128 1)))
+    ∷ edge (resting Ground (Runs (programAt 128 1))) (resting Ground (Runs (programIn OneTime 128 1)))
+    ∷ []
+
+-- while the block is entered none is half entered past 80H; 68H at the lock's address and the lock's status only then, and while nothing runs
+abbrev pub oneTimeCommands : List Edge
+oneTimeCommands =
+    edge (entered (Entering PpbSetup)) (entered (Entering EraseSetup))
+    ∷ edge (entered (Entering ProgramData)) (entered (Entering EraseUnlock))
+    ∷ edge (entered (Entering DybData)) (entered (Entering EraseUnlocked))
+    ∷ edge (entered (Entering OtpLocking)) (standing (Entering OtpLocking) Idle freshBits)
+    ∷ edge (entered (Reads OtpLock)) (standing (Reads OtpLock) Idle freshBits)
+    ∷ edge (entered (Entering (PpbSetting 269))) (entered (Entering (PpbSetting 270)))
+    ∷ edge (resting (Reads Dybs) Nothing) (resting (Reads OtpLock) Nothing)
+    ∷ edge (resting (Entering Unlocked) Nothing) (resting (Entering OtpLocking) Nothing)
+    ∷ edge (doing (there 128)) (standing (Reads OtpLock) (there 128) freshBits)
+    ∷ []
+
 abbrev pub edges : List Edge
-edges = meters ++ ranges ++ lists ++ recoveries ++ windows ++ times ++ programsFree ++ commands
+edges = meters ++ ranges ++ lists ++ recoveries ++ windows ++ times ++ programsFree ++ commands ++ oneTimePrograms ++ arrays ++ oneTimeCommands
 
 -- within is sound, and beyond is not
 abbrev pub JudgedRight : Type 0

@@ -21,12 +21,15 @@ pub mod CommandRulings
 pub mod OperationRulings
 pub mod RaiseRulings
 pub mod RecoveryRulings
+pub mod OneTimeRulings
 pub mod Rulings
 pub mod SuspendedProgram
 pub mod Stored
 pub mod Raise
 pub mod Judged
 pub mod Holds
+pub mod Doings
 pub mod History
 pub mod Promises
 pub mod Worked
+pub mod OneTime

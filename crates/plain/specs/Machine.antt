@@ -1,24 +1,28 @@
 -- The plain machine: one event, and a run of them (document 01, "Refusals by number", the order of checks).
 use Prim.Native.Nat.{ℕ, _+_}
 use mathlib.Core.Path.{_≡_}
-use mathlib.Core.Bool.{Bool, true, not}
+use mathlib.Core.Bool.{Bool, true, not, _&&_}
 use mathlib.Core.List.{List, [], _∷_}
-use lib.Dec.{ltb, leb}
-use lib.ListN.{length}
+use lib.Dec.{ltb, leb, eqb}
+use lib.ListN.{length, drop, take}
 use Rattle.geometry.specs.declared.Part.{Part}
 use Rattle.geometry.specs.Parts.{wordCount}
+use Rattle.plain.specs.declared.Array.{Array}
 use Rattle.plain.specs.declared.Refusal.{Refusal}
-use Rattle.plain.specs.declared.Refusal.the-variants.{Done, State, Cells, Address, Clock, Debris}
+use Rattle.plain.specs.declared.Refusal.the-variants.{Done, State, Cells, Address, Clock, Debris, Busy}
+use Rattle.plain.specs.declared.Operation.{Operation}
 use Rattle.plain.specs.declared.Device.{Device}
 use Rattle.plain.specs.declared.Answer.{Answer}
 use Rattle.plain.specs.declared.Entry.{Entry}
 use Rattle.plain.specs.declared.Entry.the-variants.{Admitted, Barred}
 use Rattle.plain.specs.Choice.{if_then_else_}
-use Rattle.plain.specs.Events.{Event, read, write, wait, cut, Turn}
+use Rattle.plain.specs.Events.{Event, read, write, wait, cut, range, Turn}
 use Rattle.plain.specs.Figures.{clockLimit}
-use Rattle.plain.specs.Lent.{Lent, isWhole}
+use Rattle.plain.specs.Lent.{Lent, arrayOf, wordsOf, isWhole, Whole}
+use Rattle.plain.specs.Operations.{runningOf, suspensionOf, isEntered, selected}
 use Rattle.plain.specs.Record.{device, answer}
-use Rattle.plain.specs.Sound.{sound}
+use Rattle.plain.specs.Refusals.{number}
+use Rattle.plain.specs.Sound.{isStill, sound}
 use Rattle.plain.specs.Commands.{written, effected}
 use Rattle.plain.specs.Time.{Moment, moment, ticks}
 use Rattle.plain.specs.Status.{look}
@@ -55,9 +59,9 @@ ladder p r l fails own taken = climbed (entry p r l) r l (if fails then refused 
 -- what an admitted event finds
 pub record Fit (p : Part) (r : Device) (l : Lent) : Type 0 where
   pub sound : sound p r ≡ true
-  pub whole : length (l .cells) ≡ wordCount p
+  pub whole : Whole p l
 
--- ---- the four events
+-- ---- the events
 
 abbrev pub readTaken : Part → Device → Lent → (address : ℕ) → Outcome
 readTaken p r l a =
@@ -89,6 +93,33 @@ cutTaken p r l debris = outcome (answer Done 0 (cutDevice r)) (cutLent p (r .ope
 unfoldable pub cutEvent : Part → Device → Lent → (debris : List ℕ) → Outcome
 cutEvent p r l debris = ladder p r l (ltb (length debris) (debrisNeeded p (r .operation))) Debris (cutTaken p r l debris)
 
+-- ---- a range (document 02, request 4): "handed back as a part of the one-time words or of the main array, whichever its first address
+-- selects"
+
+abbrev pub rangeArray : Operation → (first : ℕ) → Array
+rangeArray o first = selected (suspensionOf o) first
+
+-- "A range that leaves its array is ADDRESS": it begins below the word count, and ends in the array that it begins in
+abbrev pub staysInside : Part → Operation → (first count : ℕ) → Bool
+staysInside p o first count = ltb first (wordCount p) && leb (first + count) (wordsOf p (rangeArray o first))
+
+-- "While it is entered and nothing runs ..; at any other time it is BUSY."
+abbrev pub handsBack : Operation → Bool
+handsBack o = isEntered (suspensionOf o) && isStill (runningOf o)
+
+unfoldable pub rangeEvent : Part → Device → Lent → (first count : ℕ) → Outcome
+rangeEvent p r l first count =
+    ladder p r l (not (staysInside p (r .operation) first count)) Address
+    (if handsBack (r .operation) then outcome (answer Done 0 r) l else refused Busy r l)
+
+-- the words that are handed back, in their order; none if it is refused
+abbrev pub part : List ℕ → (first count : ℕ) → List ℕ
+part words first count = take count (drop first words)
+
+unfoldable pub rangeWords : Part → Device → Lent → (first count : ℕ) → List ℕ
+rangeWords p r l first count =
+    if eqb (number (rangeEvent p r l first count .answer .refusal)) 0 then part (arrayOf (rangeArray (r .operation) first) l) first count else []
+
 -- ---- any event, and a run: "In a run each event gets record and cells as the one before left them."
 
 unfoldable pub step : Part → Device → Lent → Event → Outcome
@@ -96,6 +127,7 @@ step p r l (read a) = readEvent p r l a
 step p r l (write a w) = writeEvent p r l a w
 step p r l (wait n) = waitEvent p r l n
 step p r l (cut debris) = cutEvent p r l debris
+step p r l (range first count) = rangeEvent p r l first count
 
 pub record Ran : Type 0 where
   pub device : Device

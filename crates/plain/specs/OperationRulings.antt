@@ -5,6 +5,7 @@ use mathlib.Core.List.{List, [], _∷_, _++_}
 use lib.ListN.{replicate}
 use Rattle.blocks.specs.Blocks.{withOf}
 use Rattle.protection.specs.Protection.{freshBits}
+use Rattle.plain.specs.declared.Array.the-variants.{Main}
 use Rattle.plain.specs.declared.Inside.{Inside}
 use Rattle.plain.specs.declared.Inside.the-variants.{Nothing, Runs}
 use Rattle.plain.specs.declared.Operation.the-variants.{Programming, ProgramSuspended, Erasing, EraseSuspended, ChipErasing}
@@ -71,7 +72,7 @@ suspendedAnew =
 -- every write to a program inside a suspended erase is BUSY, B0H and 30H too
 abbrev insideBusy : Row
 insideBusy =
-    runs (pausing 8 1 (Runs (program (writing 200 0) 1 false))) blank (refuses 6 (write 0 0xB0) ++ refuses 6 (write 0 0x30) ++ refuses 6 (write 0 0xF0) ++ waits 1)
+    runs (pausing 8 1 (Runs (program (writing Main 200 0) 1 false))) blank (refuses 6 (write 0 0xB0) ++ refuses 6 (write 0 0x30) ++ refuses 6 (write 0 0xF0) ++ waits 1)
     (holds 200 0 ∷ []) 1 17000
 
 -- ---- "Time and charge"
@@ -111,22 +112,22 @@ finishedFlips = runs (standing Ground (Erasing (erase (withOf (only 8) 9) 9 1 fa
 -- a suspended program of a stored record shows the complement of data bit 7, in every word of its block and not in the bank's rest
 abbrev restingProgram : Row
 restingProgram =
-    runs (standing Ground (ProgramSuspended (program (writing 100 0x0080) 4 false)) freshBits) blank (gives 100 0x44 ++ gives 64 0x44 ++ gives 127 0x44 ++ gives 128 0xFFFF) [] 0 0
+    runs (standing Ground (ProgramSuspended (program (writing Main 100 0x0080) 4 false)) freshBits) blank (gives 100 0x44 ++ gives 64 0x44 ++ gives 127 0x44 ++ gives 128 0xFFFF) [] 0 0
 
 -- DQ7 is of the written data, not of what the cell will hold: a stored program, over a word that takes no bit of it
 abbrev dq7OfData : Row
-dq7OfData = runs (standing Ground (Programming (program (writing 100 0x0080) 6 false)) freshBits) (but (holds 100 0 ∷ [])) (gives 100 0x44) [] 0 0
+dq7OfData = runs (standing Ground (Programming (program (writing Main 100 0x0080) 6 false)) freshBits) (but (holds 100 0 ∷ [])) (gives 100 0x44) [] 0 0
 
 -- a program inside a suspended erase: its own bank reads its status and leaves the erase's DQ2
 abbrev insideOwnBank : Row
 insideOwnBank =
-    runs (pausing 8 1 (Runs (program (writing 200 0x1234) 6 false))) blank (gives 64 0xC4 ++ gives 200 0x84 ++ gives 200 0xC4 ++ waits 6 ++ gives 64 0xC4 ++ gives 200 0x1234) [] 6
+    runs (pausing 8 1 (Runs (program (writing Main 200 0x1234) 6 false))) blank (gives 64 0xC4 ++ gives 200 0x84 ++ gives 200 0xC4 ++ waits 6 ++ gives 64 0xC4 ++ gives 200 0x1234) [] 6
     102000
 
 -- a listed block in another bank reads C0H plus DQ2; program and erase have toggles of their own
 abbrev insideOtherBank : Row
 insideOtherBank =
-    runs (pausing 8 1 (Runs (program (writing 3000 0x1234) 6 false))) blank (gives 64 0xC4 ++ gives 3000 0xC4 ++ gives 64 0xC0 ++ gives 3000 0x84 ++ gives 192 0xFFFF) [] 0 0
+    runs (pausing 8 1 (Runs (program (writing Main 3000 0x1234) 6 false))) blank (gives 64 0xC4 ++ gives 3000 0xC4 ++ gives 64 0xC0 ++ gives 3000 0x84 ++ gives 192 0xFFFF) [] 0 0
 
 -- DQ2 off the list is shown unflipped; DQ6 flips all the same
 abbrev dq2OffList : Row
@@ -162,7 +163,7 @@ oldAtCut = runs fresh (but (holds 100 0x0F0F ∷ [])) (takes (programOf 100 0x02
 -- with no begun erase the program's debris word is the first
 abbrev programsDebris : Row
 programsDebris =
-    runs (pausing 8 700000 (Runs (program (writing 3000 0x1234) 1 false))) blank (refuses 5 (cut []) ++ takes (cut (0xFF00 ∷ []) ∷ []))
+    runs (pausing 8 700000 (Runs (program (writing Main 3000 0x1234) 1 false))) blank (refuses 5 (cut []) ++ takes (cut (0xFF00 ∷ []) ∷ []))
     (holds 64 0xFFFF ∷ holds 3000 0xFF34 ∷ []) 0 0
 
 -- a chip erase's cut is judged by its 500,000 µs, and touches the block in hand only

@@ -5,7 +5,7 @@ use mathlib.Core.Path.{_≡_}
 use mathlib.Core.Bool.{true, false}
 use Rattle.geometry.specs.declared.Part.{Part}
 use Rattle.geometry.specs.Parts.{wordCount}
-use Rattle.protection.specs.Protection.{protected}
+use Rattle.plain.specs.declared.Written.{Written}
 use Rattle.plain.specs.declared.Refusal.the-variants.{Done, Raise}
 use Rattle.plain.specs.declared.Command.the-variants.{Ground, Entering}
 use Rattle.plain.specs.declared.Cycle.the-variants.{ProgramData}
@@ -13,28 +13,35 @@ use Rattle.plain.specs.declared.Device.{Device}
 use Rattle.plain.specs.Commands.{keepsOut, begins, started}
 use Rattle.plain.specs.Events.{Event, write}
 use Rattle.plain.specs.Figures.{programTime}
-use Rattle.plain.specs.Lent.{Lent, cellAt}
+use Rattle.plain.specs.Lent.{Lent, wordAt}
 use Rattle.plain.specs.Machine.{Outcome, outcome, Fit, step}
-use Rattle.plain.specs.Operations.{suspensionOf}
-use Rattle.plain.specs.Programs.{writing, writes, datum, blockWritten}
+use Rattle.plain.specs.Operations.{suspensionOf, selected}
+use Rattle.plain.specs.Programs.{writing, writes, datum, arrayWritten, barred}
 use Rattle.plain.specs.Record.{device, answer}
 use Rattle.plain.specs.Time.{moment, ticks}
 
--- a write that would start a program, whatever its data: the data cycle after A0H, that neither PROTECTED nor SUSPENDED refuses
+-- what a write at an address asks for, if it is the data cycle of a program: of which array, the mode and the address select
+abbrev pub asks : Device → (a w : ℕ) → Written
+asks r a w = writing (selected (suspensionOf (r .operation)) a) a w
+
+-- a write that would start a program, whatever its data: the data cycle after A0H, that neither PROTECTED (of a one-time word OTPLOCKED)
+-- nor SUSPENDED refuses
 pub record WouldStart (p : Part) (r : Device) (l : Lent) (a w : ℕ) : Type 0 where
   pub fit : Fit p r l
   pub in-part : a < wordCount p
   pub cycle : r .command ≡ Entering ProgramData
-  pub unprotected : protected (r .bits) (blockWritten p (writing a w)) ≡ false
-  pub allowed : keepsOut p (suspensionOf (r .operation)) (writing a w) ≡ false
+  pub unbarred : barred p (r .bits) (asks r a w) ≡ false
+  pub allowed : keepsOut p (suspensionOf (r .operation)) (asks r a w) ≡ false
 
 -- what is lent once that program, started all the same, has run its time
 abbrev pub wouldLeave : Part → Device → Lent → (a w : ℕ) → Lent
-wouldLeave p r l a w = ticks p (programTime p) (moment (r .meter) (begins (suspensionOf (r .operation)) (started p (writing a w))) l) .lent
+wouldLeave p r l a w = ticks p (programTime p) (moment (r .meter) (begins (suspensionOf (r .operation)) (started p (asks r a w))) l) .lent
 
 -- it would leave its data
 abbrev pub Works : Part → Device → Lent → (a w : ℕ) → Type 0
-Works p r l a w = (x : ℕ) → writes (writing a w) x ≡ true → cellAt (wouldLeave p r l a w) x ≡ datum (writing a w) x
+Works p r l a w =
+    (x : ℕ) → writes (asks r a w) (arrayWritten (asks r a w)) x ≡ true
+    → wordAt (wouldLeave p r l a w) (arrayWritten (asks r a w)) x ≡ datum (asks r a w) x
 
 -- a write that would start a program, and not leave its data
 pub data CannotWork (p : Part) (r : Device) (l : Lent) : Event → Type 0 where

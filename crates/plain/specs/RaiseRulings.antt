@@ -4,6 +4,7 @@ use mathlib.Core.Bool.{false}
 use mathlib.Core.List.{List, [], _∷_, _++_}
 use Rattle.blocks.specs.Blocks.{emptyOf}
 use Rattle.protection.specs.Protection.{freshBits}
+use Rattle.plain.specs.declared.Array.the-variants.{Main}
 use Rattle.plain.specs.declared.Operation.the-variants.{Programming}
 use Rattle.plain.specs.declared.Command.the-variants.{Ground}
 use Rattle.plain.specs.Events.{write, cut}
@@ -49,7 +50,7 @@ eraseFirst =
 -- it is judged at the data write alone: a stored program that runs over such a word ends as old AND data
 abbrev judgedOnce : Row
 judgedOnce =
-    runs (standing Ground (Programming (program (writing 100 0x00FF) 6 false)) freshBits) (but (holds 100 0x1234 ∷ [])) (waits 6) (holds 100 0x0034 ∷ []) 6 102000
+    runs (standing Ground (Programming (program (writing Main 100 0x00FF) 6 false)) freshBits) (but (holds 100 0x1234 ∷ [])) (waits 6) (holds 100 0x0034 ∷ []) 6 102000
 
 abbrev pub raiseRulings : List Row
 raiseRulings = protectedFirst ∷ suspendedFirst ∷ suspensionStands ∷ everyBit ∷ sameWord ∷ eraseFirst ∷ judgedOnce ∷ []

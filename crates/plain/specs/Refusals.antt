@@ -1,9 +1,9 @@
 -- Document 01, "Refusals by number", and the refusals of document 02: the number of each answer. Number 12 was that of a condition that
--- nothing meets (Ends); 13 is nobody's yet.
+-- nothing meets (Ends).
 use Prim.Native.Nat.{ℕ}
 use mathlib.Core.Path.{_≡_}
 use Rattle.plain.specs.declared.Refusal.{Refusal}
-use Rattle.plain.specs.declared.Refusal.the-variants.{Done, State, Cells, Address, Clock, Debris, Busy, Sequence, Bank, Protected, Suspended, Locked, Raise}
+use Rattle.plain.specs.declared.Refusal.the-variants.{Done, State, Cells, Address, Clock, Debris, Busy, Sequence, Bank, Protected, Suspended, Locked, OtpLocked, Raise}
 
 unfoldable pub number : Refusal → ℕ
 number Done = 0
@@ -18,6 +18,7 @@ number Bank = 8
 number Protected = 9
 number Suspended = 10
 number Locked = 11
+number OtpLocked = 13
 number Raise = 14
 
 -- "Number 12 stays unused." (document 02, request 12)

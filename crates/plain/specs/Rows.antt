@@ -11,6 +11,8 @@ use Rattle.blocks.specs.declared.Blocks.{Blocks}
 use Rattle.blocks.specs.Blocks.{emptyOf, withOf}
 use Rattle.protection.specs.declared.Protection.{Protection}
 use Rattle.protection.specs.Protection.{bits, freshBits}
+use Rattle.plain.specs.declared.Array.{Array}
+use Rattle.plain.specs.declared.Array.the-variants.{Main, OneTime}
 use Rattle.plain.specs.declared.Inside.the-variants.{Nothing}
 use Rattle.plain.specs.declared.Operation.{Operation}
 use Rattle.plain.specs.declared.Operation.the-variants.{Idle, EraseSuspended}
@@ -18,9 +20,9 @@ use Rattle.plain.specs.declared.Command.{Command}
 use Rattle.plain.specs.declared.Command.the-variants.{Ground}
 use Rattle.plain.specs.declared.Device.{Device}
 use Rattle.plain.specs.Refusals.{number}
-use Rattle.plain.specs.Events.{Event, read, write, wait, Turn}
-use Rattle.plain.specs.Lent.{lent, cellAt}
-use Rattle.plain.specs.Machine.{Ran, run}
+use Rattle.plain.specs.Events.{Event, read, write, wait, range, Turn}
+use Rattle.plain.specs.Lent.{Lent, lent, otpWords, arrayOf, withArray, wordAt}
+use Rattle.plain.specs.Machine.{Ran, run, step, rangeWords}
 use Rattle.plain.specs.Record.{device, erase, suspended}
 
 -- an answer: the paper's number, and the word (or, of a lookup, the block)
@@ -51,44 +53,55 @@ pub record Looked : Type 0 where
   pub said : Said
 
 pub record Held : Type 0 where
+  pub array : Array
   pub address : ℕ
   pub word : ℕ
 
--- lent cells: how many, and those that do not hold FFFFH
+-- what is lent: how many cells, and the words that do not hold FFFFH
 pub record Cells : Type 0 where
   pub count : ℕ
   pub others : List Held
 
--- a row looks addresses up, or runs events and looks at some words, clock and charge afterwards
+-- a row looks addresses up; or runs events and looks at some words, clock and charge afterwards; or runs events and then reads a range,
+-- which is refused by number or hands back words
 pub data Row : Type 0 where
   lookups : List Looked → Row
   runs : (from : Device) → Cells → List Step → List Held → (clock charge : ℕ) → Row
+  hands : (from : Device) → Cells → List Step → (first count refusal : ℕ) → (words : List ℕ) → Row
 
 abbrev pub stated : Row → Finding
 stated (lookups ls) = finding (map (λ (l : Looked). l .said) ls) [] 0 0
 stated (runs r cells ss hs c q) = finding (map (λ (s : Step). s .said) ss) (map (λ (h : Held). h .word) hs) c q
+stated (hands r cells ss first count n words) = finding (map (λ (s : Step). s .said) ss ++ (say n 0 ∷ [])) words 0 0
 
-abbrev said : Turn → Said
+abbrev pub said : Turn → Said
 said t = say (number (t .refusal)) (t .word)
 
 abbrev pub after : Ran → List Held → Finding
-after r hs = finding (map said (r .turns)) (map (λ (h : Held). cellAt (r .lent) (h .address)) hs) (r .device .meter .clock) (r .device .meter .charge)
+after r hs = finding (map said (r .turns)) (map (λ (h : Held). wordAt (r .lent) (h .array) (h .address)) hs) (r .device .meter .clock) (r .device .meter .charge)
 
 abbrev pub eventsOf : List Step → List Event
 eventsOf ss = map (λ (s : Step). s .event) ss
 
--- the cells with such words in them
-unfoldable pub filled : List ℕ → List Held → List ℕ
-filled cells [] = cells
-filled cells (h ∷ hs) = set (filled cells hs) (h .address) (h .word)
+-- what is lent with such words in it
+unfoldable pub filled : Lent → List Held → Lent
+filled l [] = l
+filled l (h ∷ hs) = let rest = filled l hs in withArray (h .array) rest (set (arrayOf (h .array) rest) (h .address) (h .word))
 
-abbrev pub laid : Cells → List ℕ
-laid c = filled (replicate (c .count) 0xFFFF) (c .others)
+abbrev pub laid : Cells → Lent
+laid c = filled (lent (replicate (c .count) 0xFFFF) (replicate otpWords 0xFFFF)) (c .others)
+
+-- a range at the end of a run
+abbrev pub handed : Ran → (first count : ℕ) → Finding
+handed r first count =
+    let n = number (step Small (r .device) (r .lent) (range first count) .answer .refusal) in
+    finding (map said (r .turns) ++ (say n 0 ∷ [])) (rangeWords Small (r .device) (r .lent) first count) 0 0
 
 -- what the plain machine makes of a row
 abbrev pub found : Row → Finding
 found (lookups ls) = finding (map (λ (l : Looked). say (refusalAsked Small (l .address)) (blockAsked Small (l .address))) ls) [] 0 0
-found (runs r cells ss hs c q) = after (run Small r (lent (laid cells)) (eventsOf ss)) hs
+found (runs r cells ss hs c q) = after (run Small r (laid cells) (eventsOf ss)) hs
+found (hands r cells ss first count n words) = handed (run Small r (laid cells) (eventsOf ss)) first count
 
 -- of each row of a table the plain machine makes what is stated
 abbrev pub AsStated : List Row → Type 0
@@ -120,7 +133,10 @@ abbrev pub past : ℕ → Looked
 past a = record { address = a; said = say 3 0 }
 
 abbrev pub holds : (address word : ℕ) → Held
-holds a w = record { address = a; word = w }
+holds a w = record { array = Main; address = a; word = w }
+
+abbrev pub holdsOtp : (address word : ℕ) → Held
+holdsOtp a w = record { array = OneTime; address = a; word = w }
 
 -- ---- cells
 
@@ -174,7 +190,7 @@ standing c o b = device (record { clock = 0; charge = 0 }) c o b
 
 -- at ground with nothing under way: the blocks whose DYB is set, and those whose PPB is
 abbrev pub guarded : (dyb ppb : Blocks) → Device
-guarded dyb ppb = standing Ground Idle (bits dyb ppb false)
+guarded dyb ppb = standing Ground Idle (bits dyb ppb false false)
 
 abbrev pub only : ℕ → Blocks
 only b = withOf emptyOf b

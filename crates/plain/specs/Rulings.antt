@@ -6,6 +6,7 @@ use mathlib.Core.List.{List, [], _∷_, _++_}
 use lib.ListN.{set}
 use Rattle.blocks.specs.Blocks.{emptyOf, withOf}
 use Rattle.protection.specs.Protection.{bits, freshBits}
+use Rattle.plain.specs.declared.Array.the-variants.{Main}
 use Rattle.plain.specs.declared.Inside.the-variants.{Runs}
 use Rattle.plain.specs.declared.Operation.{Operation}
 use Rattle.plain.specs.declared.Operation.the-variants.{Idle, Programming, Window, Erasing, EraseSuspended, ChipErasing}
@@ -19,11 +20,12 @@ use Rattle.plain.specs.Programs.{writing}
 use Rattle.plain.specs.RaiseRulings.{raiseRulings}
 use Rattle.plain.specs.Record.{program, erase, suspended, fresh}
 use Rattle.plain.specs.RecoveryRulings.{recoveryRulings}
+use Rattle.plain.specs.OneTimeRulings.{oneTimeRulings}
 use Rattle.plain.specs.Rows.{Row, lookups, runs, takes, waits, gives, refuses, lies, past, holds, blank, but, unlock, enters, programOf, eraseOf, dybOf, dybGives, suspendedThird, metered, standing, guarded, only, resting}
 
 -- a program at 100 (block 8) in its last microsecond
 abbrev ending : Operation
-ending = Programming (program (writing 100 0x1234) 1 false)
+ending = Programming (program (writing Main 100 0x1234) 1 false)
 
 -- ---- "Geometry"
 
@@ -63,7 +65,7 @@ lockBindsPpbs =
 -- a cut clears DYBs and the lock bit, and leaves PPBs (block 11 is words 256 to 319)
 abbrev cutClearsDybs : Row
 cutClearsDybs =
-    runs (standing Ground Idle (bits (only 0) (only 11) true)) blank (dybGives 0 3 ++ takes (cut [] ∷ []) ++ dybGives 0 0 ++ takes (enters 0x90) ++ gives 258 1) [] 0 0
+    runs (standing Ground Idle (bits (only 0) (only 11) true false)) blank (dybGives 0 3 ++ takes (cut [] ∷ []) ++ dybGives 0 0 ++ takes (enters 0x90) ++ gives 258 1) [] 0 0
 
 -- a bit for a number from 270 up, in the protection bits or in a list, is STATE
 abbrev strayBit : Row
@@ -116,7 +118,7 @@ finishedNotBlank =
 -- while a program runs inside a suspended erase no command is half entered
 abbrev halfEnteredInside : Row
 halfEnteredInside =
-    runs (standing (Entering Unlock) (EraseSuspended (suspended (erase (only 8) 8 1 false false) (Runs (program (writing 200 0) 1 false)))) freshBits) blank
+    runs (standing (Entering Unlock) (EraseSuspended (suspended (erase (only 8) 8 1 false false) (Runs (program (writing Main 200 0) 1 false)))) freshBits) blank
     (refuses 1 (read 0)) [] 0 0
 
 -- in a suspended erase A0H may be half entered, and 48H may not
@@ -162,7 +164,7 @@ clockWholeWait = runs (metered 99999999999998 0) blank (refuses 4 (wait 3) ++ wa
 -- a record with an operation in a protected block is STATE; an unsound record refuses a cut, too
 abbrev protectedProgram : Row
 protectedProgram =
-    runs (standing Ground ending (bits (only 8) emptyOf false)) blank (refuses 1 (cut (0 ∷ [])) ++ refuses 1 (wait 1) ++ refuses 1 (read 100) ++ refuses 1 (write 0 0xF0))
+    runs (standing Ground ending (bits (only 8) emptyOf false false)) blank (refuses 1 (cut (0 ∷ [])) ++ refuses 1 (wait 1) ++ refuses 1 (read 100) ++ refuses 1 (write 0 0xF0))
     (holds 100 0xFFFF ∷ []) 0 0
 
 -- a refused read flips nothing
@@ -183,4 +185,4 @@ rulings =
     ∷ identityBank4 ∷ ppbBlock270 ∷ progressAtClock0 ∷ chargeAtBound ∷ chargePastBound ∷ clockPastLimit ∷ chipListSmaller ∷ finishedNotBlank
     ∷ halfEnteredInside ∷ pastA0Suspended ∷ past48Suspended ∷ addressKeepsCommand ∷ sequenceBeginsNothing ∷ sequenceResumesNothing
     ∷ sequenceEndsReading ∷ windowF0 ∷ busyInEveryBank ∷ clockWholeWait ∷ protectedProgram ∷ refusedRead ∷ suspendedStands
-    ∷ commandRulings ++ raiseRulings ++ operationRulings ++ recoveryRulings
+    ∷ commandRulings ++ raiseRulings ++ operationRulings ++ recoveryRulings ++ oneTimeRulings

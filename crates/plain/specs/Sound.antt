@@ -9,27 +9,28 @@ use Rattle.geometry.specs.Parts.{blockCount, bankCount, bankOfBlock}
 use Rattle.meter.specs.declared.Meter.{Meter}
 use Rattle.protection.specs.declared.Protection.{Protection}
 use Rattle.protection.specs.Protection.{protected, strayBits}
+use Rattle.plain.specs.declared.Written.{Written}
 use Rattle.plain.specs.declared.Program.{Program}
 use Rattle.plain.specs.declared.Erase.{Erase}
 use Rattle.plain.specs.declared.Inside.{Inside}
 use Rattle.plain.specs.declared.Inside.the-variants.{Nothing, Runs}
 use Rattle.plain.specs.declared.Operation.{Operation}
-use Rattle.plain.specs.declared.Operation.the-variants.{Idle, Programming, ProgramSuspended, Window, Erasing, Recovering, EraseSuspended, ChipErasing}
+use Rattle.plain.specs.declared.Operation.the-variants.{Idle, Programming, ProgramSuspended, Window, Erasing, Recovering, EraseSuspended, ChipErasing, InOneTime}
 use Rattle.plain.specs.declared.Running.{Running}
 use Rattle.plain.specs.declared.Running.the-variants.{Still, Programs, Waits, Erases, Recovers, ErasesChip}
 use Rattle.plain.specs.declared.Suspension.{Suspension}
-use Rattle.plain.specs.declared.Suspension.the-variants.{Unsuspended, OfProgram, OfErase}
+use Rattle.plain.specs.declared.Suspension.the-variants.{Unsuspended, OfProgram, OfErase, Entered}
 use Rattle.plain.specs.declared.Command.{Command}
 use Rattle.plain.specs.declared.Command.the-variants.{Ground, Entering, Reads}
 use Rattle.plain.specs.declared.Cycle.{Cycle}
-use Rattle.plain.specs.declared.Cycle.the-variants.{Unlock, Unlocked, ProgramData, EraseSetup, EraseUnlock, EraseUnlocked, DybData, PpbSetup, PpbSetting, PpbClearing}
+use Rattle.plain.specs.declared.Cycle.the-variants.{Unlock, Unlocked, ProgramData, EraseSetup, EraseUnlock, EraseUnlocked, DybData, PpbSetup, PpbSetting, PpbClearing, OtpLocking}
 use Rattle.plain.specs.declared.Reading.{Reading}
-use Rattle.plain.specs.declared.Reading.the-variants.{Identity, Dybs}
+use Rattle.plain.specs.declared.Reading.the-variants.{Identity, Dybs, OtpLock}
 use Rattle.plain.specs.declared.Device.{Device}
 use Rattle.plain.specs.Choice.{if_then_else_}
 use Rattle.plain.specs.Figures.{programTime, windowTime, eraseTime, recoveryTime, chipTime, runningCurrent, clockLimit}
-use Rattle.plain.specs.Operations.{runningOf, suspensionOf}
-use Rattle.plain.specs.Programs.{liesIn, blockWritten}
+use Rattle.plain.specs.Operations.{runningOf, suspensionOf, isEntered, selected}
+use Rattle.plain.specs.Programs.{same, arrayWritten, firstWord, liesIn, blockWritten, barred}
 
 -- "the clock is at most the limit; charge is at most 17,000 times the clock"
 unfoldable pub meterSound : Part → Meter → Bool
@@ -39,10 +40,16 @@ meterSound p m = leb (m .clock) (clockLimit p) && leb (m .charge) (runningCurren
 abbrev pub timeSound : (left full : ℕ) → Bool
 timeSound left full = leb 1 left && leb left full
 
--- "addresses .. are in range; .. a program's block is unprotected"
-unfoldable pub programSound : Part → Protection → Program → Bool
-programSound p bits q =
-    liesIn p (q .writes) && (timeSound (q .left) (programTime p) && not (protected bits (blockWritten p (q .writes))))
+-- a program writes to the array that its address selects: the mode cannot have changed since its data write
+abbrev pub arraySound : Suspension → Written → Bool
+arraySound s d = same (arrayWritten d) (selected s (firstWord d))
+
+-- "addresses .. are in range; .. a program's block is unprotected"; document 02, request 4: "OTPLOCKED, in the place of PROTECTED, in
+-- soundness too"
+unfoldable pub programSound : Part → Protection → Suspension → Program → Bool
+programSound p bits s q =
+    arraySound s (q .writes)
+    && (liesIn p (q .writes) && (timeSound (q .left) (programTime p) && not (barred p bits (q .writes))))
 
 -- "an erase list .. holds no protected block"
 abbrev pub erasable : Protection → (b : ℕ) → Bool
@@ -73,7 +80,12 @@ lowest e = not (some (has (e .list)) (e .hand))
 -- "a program's block is .. not on a suspended erase list"
 unfoldable pub insideSound : Part → Protection → Erase → Inside → Bool
 insideSound p bits e Nothing = true
-insideSound p bits e (Runs q) = programSound p bits q && not (has (e .list) (blockWritten p (q .writes)))
+insideSound p bits e (Runs q) = programSound p bits (OfErase e) q && not (has (e .list) (blockWritten p (q .writes)))
+
+-- while the one-time block is entered nothing runs but a program
+unfoldable pub enteredSound : Part → Protection → Inside → Bool
+enteredSound p bits Nothing = true
+enteredSound p bits (Runs q) = programSound p bits Entered q
 
 -- a block erase past its window: "time left is from 1 to the full time"
 abbrev pub blockEraseSound : Part → Protection → Erase → Bool
@@ -84,30 +96,35 @@ blockEraseSound p bits e = listSound p bits e && timeSound (e .left) (eraseTime 
 -- request 1: "Recovery, 1 to 20 µs left, belongs to a running block erase past its window."
 unfoldable pub operationSound : Part → Protection → Operation → Bool
 operationSound p bits Idle = true
-operationSound p bits (Programming q) = programSound p bits q
-operationSound p bits (ProgramSuspended q) = programSound p bits q
+operationSound p bits (Programming q) = programSound p bits Unsuspended q
+operationSound p bits (ProgramSuspended q) = programSound p bits Unsuspended q
 operationSound p bits (Window e) = listSound p bits e && (lowest e && timeSound (e .left) (windowTime p))
 operationSound p bits (Erasing e) = blockEraseSound p bits e
 operationSound p bits (Recovering r) = blockEraseSound p bits (r .erase) && timeSound (r .left) (recoveryTime p)
 operationSound p bits (EraseSuspended s) = blockEraseSound p bits (s .erase) && insideSound p bits (s .erase) (s .inside)
 operationSound p bits (ChipErasing e) = chipListSound p bits e && timeSound (e .left) (chipTime p)
+operationSound p bits (InOneTime i) = enteredSound p bits i
 
--- "block numbers are in range": of 68H's block, and of the bank of identity reading
-unfoldable pub cycleInRange : Part → Cycle → Bool
-cycleInRange p Unlock = true
-cycleInRange p Unlocked = true
-cycleInRange p ProgramData = true
-cycleInRange p EraseSetup = true
-cycleInRange p EraseUnlock = true
-cycleInRange p EraseUnlocked = true
-cycleInRange p DybData = true
-cycleInRange p PpbSetup = true
-cycleInRange p (PpbSetting b) = ltb b (blockCount p)
-cycleInRange p PpbClearing = true
+-- "block numbers are in range": of 68H's block, and of the bank of identity reading. While the one-time block is entered none is half
+-- entered past 80H, and 68H at the lock's address only then
+unfoldable pub cycleUnsuspended : Part → (entered : Bool) → Cycle → Bool
+cycleUnsuspended p entered Unlock = true
+cycleUnsuspended p entered Unlocked = true
+cycleUnsuspended p entered ProgramData = true
+cycleUnsuspended p entered EraseSetup = not entered
+cycleUnsuspended p entered EraseUnlock = not entered
+cycleUnsuspended p entered EraseUnlocked = not entered
+cycleUnsuspended p entered DybData = true
+cycleUnsuspended p entered PpbSetup = true
+cycleUnsuspended p entered (PpbSetting b) = ltb b (blockCount p)
+cycleUnsuspended p entered PpbClearing = true
+cycleUnsuspended p entered OtpLocking = entered
 
-unfoldable pub readingInRange : Part → Reading → Bool
-readingInRange p (Identity bank) = ltb bank (bankCount p)
-readingInRange p Dybs = true
+-- the status of the customer's lock is read while the one-time block is entered
+unfoldable pub readingSound : Part → Suspension → Reading → Bool
+readingSound p s (Identity bank) = ltb bank (bankCount p)
+readingSound p s Dybs = true
+readingSound p s OtpLock = isEntered s
 
 -- "in suspension none is half entered past 80H, 48H or 60H, nor past A0H in a suspended program"
 unfoldable pub cycleInSuspension : (afterA0 : Bool) → Cycle → Bool
@@ -121,17 +138,19 @@ cycleInSuspension afterA0 DybData = false
 cycleInSuspension afterA0 PpbSetup = false
 cycleInSuspension afterA0 (PpbSetting b) = false
 cycleInSuspension afterA0 PpbClearing = false
+cycleInSuspension afterA0 OtpLocking = false
 
 unfoldable pub cycleSound : Part → Suspension → Cycle → Bool
-cycleSound p Unsuspended c = cycleInRange p c
+cycleSound p Unsuspended c = cycleUnsuspended p false c
 cycleSound p (OfProgram q) c = cycleInSuspension false c
 cycleSound p (OfErase e) c = cycleInSuspension true c
+cycleSound p Entered c = cycleUnsuspended p true c
 
 -- may the register stand so while nothing runs?
 unfoldable pub stillCommand : Part → Suspension → Command → Bool
 stillCommand p s Ground = true
 stillCommand p s (Entering c) = cycleSound p s c
-stillCommand p s (Reads r) = readingInRange p r
+stillCommand p s (Reads r) = readingSound p s r
 
 -- "no command is half entered and no identity or 58H reading is on while an operation runs"
 unfoldable pub isGround : Command → Bool

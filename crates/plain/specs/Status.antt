@@ -12,19 +12,19 @@ use Rattle.plain.specs.declared.Inside.{Inside}
 use Rattle.plain.specs.declared.Inside.the-variants.{Nothing, Runs}
 use Rattle.plain.specs.declared.SuspendedErase.{SuspendedErase}
 use Rattle.plain.specs.declared.Operation.{Operation}
-use Rattle.plain.specs.declared.Operation.the-variants.{Idle, Programming, ProgramSuspended, Window, Erasing, Recovering, EraseSuspended, ChipErasing}
+use Rattle.plain.specs.declared.Operation.the-variants.{Idle, Programming, ProgramSuspended, Window, Erasing, Recovering, EraseSuspended, ChipErasing, InOneTime}
 use Rattle.plain.specs.declared.Running.{Running}
 use Rattle.plain.specs.declared.Running.the-variants.{Still, Programs, Waits, Erases, Recovers, ErasesChip}
 use Rattle.plain.specs.declared.Suspension.{Suspension}
-use Rattle.plain.specs.declared.Suspension.the-variants.{Unsuspended, OfProgram, OfErase}
+use Rattle.plain.specs.declared.Suspension.the-variants.{Unsuspended, OfProgram, OfErase, Entered}
 use Rattle.plain.specs.declared.Command.{Command}
 use Rattle.plain.specs.declared.Command.the-variants.{Ground, Entering, Reads}
 use Rattle.plain.specs.declared.Reading.{Reading}
-use Rattle.plain.specs.declared.Reading.the-variants.{Identity, Dybs}
+use Rattle.plain.specs.declared.Reading.the-variants.{Identity, Dybs, OtpLock}
 use Rattle.plain.specs.declared.Seen.{Seen}
 use Rattle.plain.specs.Choice.{if_then_else_}
-use Rattle.plain.specs.Lent.{Lent, cellAt}
-use Rattle.plain.specs.Operations.{runningOf, suspensionOf}
+use Rattle.plain.specs.Lent.{Lent, wordAt}
+use Rattle.plain.specs.Operations.{runningOf, suspensionOf, selected}
 use Rattle.plain.specs.Programs.{blockWritten, bankWritten, dq7}
 use Rattle.plain.specs.Record.{program, erase, suspended, recovery}
 
@@ -67,6 +67,7 @@ polled p (Erasing e) a = Erasing (erasePolled p e a)
 polled p (Recovering r) a = Recovering (recovery (erasePolled p (r .erase) a) (r .left))
 polled p (EraseSuspended s) a = EraseSuspended (suspended (s .erase) (insidePolled (s .inside)))
 polled p (ChipErasing e) a = ChipErasing (erasePolled p e a)
+polled p (InOneTime i) a = InOneTime (insidePolled i)
 
 -- "Program: DQ7 is the complement of data bit 7, DQ2 shows 1, DQ3 0. Erase: DQ7 0, DQ3 1 except 0 in the window"
 unfoldable pub status : Running → ℕ
@@ -79,10 +80,11 @@ status (ErasesChip e) = statusWord false (e .dq6) true (e .dq2)
 
 -- ---- "After that come identity and 58H reading"
 
--- "90H: identity reading in the bank of this third address"; "58H: each read"
+-- "90H: identity reading in the bank of this third address"; "58H: each read"; so the status of the customer's lock
 unfoldable pub givenAt : Part → Reading → (a : ℕ) → Bool
 givenAt p (Identity bank) a = eqb (bankOf p a) bank
 givenAt p Dybs a = true
+givenAt p OtpLock a = true
 
 -- "By the low 8 address bits: 00H gives 00ECH, 02H gives the block's PPB, all others 0"
 abbrev pub identityWord : Part → Protection → (a : ℕ) → ℕ
@@ -98,6 +100,7 @@ dybWord p bits a = (if has (bits .dyb) (blockOf p a) then 1 else 0) + (if bits .
 unfoldable pub givenWord : Part → Protection → Reading → (a : ℕ) → ℕ
 givenWord p bits (Identity bank) a = identityWord p bits a
 givenWord p bits Dybs a = dybWord p bits a
+givenWord p bits OtpLock a = if bits .sealed then 1 else 0
 
 unfoldable pub readingOn : Part → Command → (a : ℕ) → Bool
 readingOn p Ground a = false
@@ -116,11 +119,13 @@ unfoldable pub rests : Part → Suspension → (a : ℕ) → Bool
 rests p Unsuspended a = false
 rests p (OfProgram q) a = eqb (blockOf p a) (blockWritten p (q .writes))
 rests p (OfErase e) a = has (e .list) (blockOf p a)
+rests p Entered a = false
 
 unfoldable pub restWord : Suspension → ℕ
 restWord Unsuspended = 0
 restWord (OfProgram q) = statusWord (dq7 (q .writes)) true false true
 restWord (OfErase e) = statusWord true true false (e .dq2)
+restWord Entered = 0
 
 abbrev pub restFlipped : SuspendedErase → SuspendedErase
 restFlipped s =
@@ -135,8 +140,10 @@ rested (Erasing e) = Erasing e
 rested (Recovering r) = Recovering r
 rested (EraseSuspended s) = EraseSuspended (restFlipped s)
 rested (ChipErasing e) = ChipErasing e
+rested (InOneTime i) = InOneTime i
 
--- ---- the word, and the operation with its toggles afterwards: "Any other read gives the cell."
+-- ---- the word, and the operation with its toggles afterwards: "Any other read gives the cell."; document 02, request 4: "the one-time words
+-- or .. the main array", by mode and address
 
 abbrev pub seen : ℕ → Operation → Seen
 seen w o = record { word = w; operation = o }
@@ -146,4 +153,4 @@ look p bits c o l a =
     if polls p (runningOf o) a then seen (status (runningOf (polled p o a))) (polled p o a)
     else if readingOn p c a then seen (readingWord p bits c a) o
     else if rests p (suspensionOf o) a then seen (restWord (suspensionOf (rested o))) (rested o)
-    else seen (cellAt l a) o
+    else seen (wordAt l (selected (suspensionOf o) a) a) o

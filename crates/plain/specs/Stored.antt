@@ -3,6 +3,7 @@
 use mathlib.Core.Bool.{false}
 use mathlib.Core.List.{List, [], _∷_, _++_}
 use Rattle.protection.specs.Protection.{freshBits}
+use Rattle.plain.specs.declared.Array.the-variants.{Main}
 use Rattle.plain.specs.declared.Operation.the-variants.{ProgramSuspended}
 use Rattle.plain.specs.declared.Command.the-variants.{Ground}
 use Rattle.plain.specs.declared.Device.{Device}
@@ -13,10 +14,10 @@ use Rattle.plain.specs.Rows.{Row, runs, takes, waits, gives, refuses, ho
 
 -- 1234H at 100 (block 8, words 64 to 127) ran for 2 µs and was suspended for 8, or was suspended at once and for 10
 abbrev restsBegun : Device
-restsBegun = device (record { clock = 10; charge = 34120 }) Ground (ProgramSuspended (program (writing 100 0x1234) 4 false)) freshBits
+restsBegun = device (record { clock = 10; charge = 34120 }) Ground (ProgramSuspended (program (writing Main 100 0x1234) 4 false)) freshBits
 
 abbrev restsUnbegun : Device
-restsUnbegun = device (record { clock = 10; charge = 150 }) Ground (ProgramSuspended (program (writing 100 0x1234) 6 false)) freshBits
+restsUnbegun = device (record { clock = 10; charge = 150 }) Ground (ProgramSuspended (program (writing Main 100 0x1234) 6 false)) freshBits
 
 -- every word of the block shows DQ7 (the complement of data bit 7), DQ6 and DQ2, and none flips; time passes it by
 abbrev reads : Row

@@ -8,16 +8,17 @@ use Rattle.geometry.specs.declared.Part.{Part}
 use Rattle.geometry.specs.Parts.{blockCount, firstOf, sizeOf}
 use Rattle.meter.specs.declared.Meter.{Meter}
 use Rattle.meter.specs.Meter.{metered}
+use Rattle.plain.specs.declared.Array.the-variants.{Main}
 use Rattle.plain.specs.declared.Erase.{Erase}
 use Rattle.plain.specs.declared.Inside.{Inside}
 use Rattle.plain.specs.declared.Inside.the-variants.{Nothing, Runs}
 use Rattle.plain.specs.declared.Operation.{Operation}
-use Rattle.plain.specs.declared.Operation.the-variants.{Idle, Programming, ProgramSuspended, Window, Erasing, Recovering, EraseSuspended, ChipErasing}
+use Rattle.plain.specs.declared.Operation.the-variants.{Idle, Programming, ProgramSuspended, Window, Erasing, Recovering, EraseSuspended, ChipErasing, InOneTime}
 use Rattle.plain.specs.declared.Running.{Running}
 use Rattle.plain.specs.declared.Running.the-variants.{Still, Programs, Waits, Erases, Recovers, ErasesChip}
 use Rattle.plain.specs.Choice.{if_then_else_}
 use Rattle.plain.specs.Figures.{eraseTime, chipTime, runningCurrent, standbyCurrent}
-use Rattle.plain.specs.Lent.{Lent, withCells}
+use Rattle.plain.specs.Lent.{Lent, withArray}
 use Rattle.plain.specs.Operations.{runningOf}
 use Rattle.plain.specs.Programs.{finished}
 use Rattle.plain.specs.Record.{programLeft, eraseLeft, erase, suspended, recovery}
@@ -54,12 +55,13 @@ onward p erasing full e =
     then erasing (erase (e .list) (firstFrom (e .list) (suc (e .hand))) full (e .dq6) (e .dq2))
     else Idle
 
--- "When a program inside a suspended erase ends, the erase stays suspended."
-unfoldable pub insideTick : Erase → Inside → Operation
-insideTick e Nothing = EraseSuspended (suspended e Nothing)
-insideTick e (Runs q) =
-    if last (q .left) then EraseSuspended (suspended e Nothing)
-    else EraseSuspended (suspended e (Runs (programLeft q (q .left - 1))))
+-- "When a program inside a suspended erase ends, the erase stays suspended.": so does the one-time block stay entered
+unfoldable pub insideTick : (Inside → Operation) → Inside → Operation
+insideTick around Nothing = around Nothing
+insideTick around (Runs q) = if last (q .left) then around Nothing else around (Runs (programLeft q (q .left - 1)))
+
+abbrev pub resting : Erase → Inside → Operation
+resting e i = EraseSuspended (suspended e i)
 
 -- in a recovery "the block makes no progress": its time left stands, and it is suspended when the recovery is over
 unfoldable pub operationTick : Part → Operation → Operation
@@ -70,14 +72,15 @@ operationTick p (Window e) = if last (e .left) then Erasing (eraseLeft e (eraseT
 operationTick p (Erasing e) = if last (e .left) then onward p Erasing (eraseTime p) e else Erasing (eraseLeft e (e .left - 1))
 operationTick p (Recovering r) =
     if last (r .left) then EraseSuspended (suspended (r .erase) Nothing) else Recovering (recovery (r .erase) (r .left - 1))
-operationTick p (EraseSuspended s) = insideTick (s .erase) (s .inside)
+operationTick p (EraseSuspended s) = insideTick (resting (s .erase)) (s .inside)
 operationTick p (ChipErasing e) =
     if last (e .left) then onward p ChipErasing (chipTime p) e else ChipErasing (eraseLeft e (e .left - 1))
+operationTick p (InOneTime i) = insideTick InOneTime i
 
 -- ---- what it does to the cells: "Cells change only when a word or block is finished."
 
 abbrev pub eraseFinished : Part → Erase → Lent → Lent
-eraseFinished p e l = withCells l (erased (l .cells) (firstOf p (e .hand)) (sizeOf p (e .hand)))
+eraseFinished p e l = withArray Main l (erased (l .cells) (firstOf p (e .hand)) (sizeOf p (e .hand)))
 
 unfoldable pub lentTick : Part → Running → Lent → Lent
 lentTick p Still l = l

@@ -7,6 +7,7 @@ use lib.ListN.{replicate}
 use Rattle.blocks.specs.Blocks.{emptyOf, withOf}
 use Rattle.geometry.specs.declared.Part.the-variants.{Small}
 use Rattle.protection.specs.Protection.{freshBits, ppbSet}
+use Rattle.plain.specs.declared.Array.the-variants.{Main}
 use Rattle.plain.specs.declared.Program.{Program}
 use Rattle.plain.specs.declared.Erase.{Erase}
 use Rattle.plain.specs.declared.Inside.the-variants.{Runs}
@@ -25,7 +26,7 @@ endsSoon o = device (record { clock = 0; charge = 0 }) Ground o (ppbSet freshBit
 
 abbrev unmade : List Device
 unmade =
-    let q : Program = program (writing 100 0x1234) 2 false in
+    let q : Program = program (writing Main 100 0x1234) 2 false in
     let e : Erase = erase (withOf emptyOf 8) 8 2 false false in
     map endsSoon (Programming q ∷ Erasing e ∷ EraseSuspended (suspended e (Runs q)) ∷ ChipErasing e ∷ [])
 

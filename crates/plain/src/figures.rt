@@ -3,6 +3,9 @@ ghost use mathlib.Core.Path.{_≡_};
 ghost use Rattle.plain.specs.Figures.{programTime, windowTime, eraseTime, recoveryTime, chipTime, runningCurrent, standbyCurrent, clockLimit};
 use geometry::Part;
 
+// "256 words in both parts"
+pub const OTP_WORDS: usize = 256;
+
 pub fn program_time(part: Part) -> u64
     ensures { λ r. ⌜ r ≡ programTime part ⌝ }
 {

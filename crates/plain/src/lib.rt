@@ -19,11 +19,20 @@ pub enum Refusal {
     Protected,
     Suspended,
     Locked,
+    OtpLocked,
     Raise,
 }
 
-// What a program writes: "address and all 16 data bits". Who asks of it goes by Programs, and takes it apart nowhere else.
+// The two arrays that are lent: the cells, and the one-time words.
+pub enum Array {
+    Main,
+    OneTime,
+}
+
+// What a program writes: "address and all 16 data bits", in one of the arrays. Who asks of it goes by Programs, and takes it apart
+// nowhere else.
 pub struct Written {
+    pub array: Array,
     pub at: usize,
     pub word: u16,
 }
@@ -44,7 +53,7 @@ pub struct Erase {
     pub dq2: bool,
 }
 
-// What goes on inside a suspended erase.
+// What goes on inside a suspended erase, or inside the one-time block.
 pub enum Inside {
     Nothing,
     Runs(Program),
@@ -61,8 +70,9 @@ pub struct Recovery {
     pub left: u64,
 }
 
-// What runs or is suspended. A block erase that runs is in one of three phases: in its window (there `left` is the window's time,
+// What runs, is suspended or is entered. A block erase that runs is in one of three phases: in its window (there `left` is the window's time,
 // and the block in hand has its full time yet), erasing, or recovering. A suspended program is held by stored records alone.
+// While the one-time block is entered no erase runs and nothing is suspended: there is no place for them.
 pub enum Operation {
     Idle,
     Programming(Program),
@@ -72,9 +82,10 @@ pub enum Operation {
     Recovering(Recovery),
     EraseSuspended(SuspendedErase),
     ChipErasing(Erase),
+    InOneTime(Inside),
 }
 
-// What of an operation runs, a program inside a suspended erase included: asked by all who go by what runs now.
+// What of an operation runs, a program inside a suspended erase or the one-time block included: asked by all who go by what runs now.
 pub enum Running {
     Still,
     Programs(Program),
@@ -84,11 +95,13 @@ pub enum Running {
     ErasesChip(Erase),
 }
 
-// What of an operation is suspended: asked by all who go by what waits to be resumed.
+// What commands are entered beside: nothing, what is suspended, or the one-time block. Asked by all who go by what stands while
+// nothing runs.
 pub enum Suspension {
     Unsuspended,
     OfProgram(Program),
     OfErase(Erase),
+    Entered,
 }
 
 // The command register.
@@ -110,12 +123,14 @@ pub enum Cycle {
     PpbSetup,
     PpbSetting(usize),
     PpbClearing,
+    OtpLocking,
 }
 
-// A reading that is on: identity in a bank, or 58H.
+// A reading that is on: identity in a bank, 58H, or the status of the customer's lock.
 pub enum Reading {
     Identity(usize),
     Dybs,
+    OtpLock,
 }
 
 // The whole record.
@@ -155,10 +170,16 @@ pub struct Seen {
     pub operation: Operation,
 }
 
-// A word or a block, or none.
+// A block, or none.
 pub enum Place {
     Nowhere,
     At(usize),
+}
+
+// A word of one of the arrays, or none.
+pub enum Spot {
+    NoWord,
+    In(Array, usize),
 }
 
 // What a begun program writes, which a cut would hit; or that none has begun.

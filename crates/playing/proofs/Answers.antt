@@ -7,6 +7,7 @@ use lib.Dec.{eqb}
 use lib.ListN.{length}
 use Rattle.plain.specs.declared.Device.{Device}
 use Rattle.plain.specs.Choice.{if_then_else_}
+use Rattle.plain.specs.Lent.{Lent}
 use Rattle.plain.specs.Record.{fresh}
 use Rattle.script.specs.declared.Line.{Line}
 use Rattle.language.specs.Language.{Bytes, Meaning, meaning}
@@ -31,34 +32,34 @@ same-answers (b ∷ bytes) f g n s p same =
     by true go = rw (same [] tt)
     by false go = go
 
-answers-on : (bytes : List ℕ) (r : Device) (l : Line) (n : ℕ) (cells words : List ℕ) → length words ≡ 16384 → Bytes bytes
-    → told (run (replay r l n) cells words) bytes ≡ answersFrom (readFrom l words) n bytes (state r cells)
+answers-on : (bytes : List ℕ) (r : Device) (l : Line) (n : ℕ) (lent : Lent) (words : List ℕ) → length words ≡ 16384 → Bytes bytes
+    → told (run (replay r l n) lent words) bytes ≡ answersFrom (readFrom l words) n bytes (state r lent)
 unfolding runOver toldOver answersFrom ended fed answered readFrom
-answers-on [] r l n cells words size p = refl
-answers-on (b ∷ bytes) r l n cells words size p =
+answers-on [] r l n lent words size p = refl
+answers-on (b ∷ bytes) r l n lent words size p =
     by (eqb b 10)
-    (λ s m stored held. answers-on bytes (s .device) noLine m (s .cells) stored held (p .1))
-    (answers-on bytes r (fedLine l b (length words)) n cells (fedWords l b words) (fed-size l b words ∙ size) (p .1))
+    (λ s m stored held. answers-on bytes (s .device) noLine m (s .lent) stored held (p .1))
+    (answers-on bytes r (fedLine l b (length words)) n lent (fedWords l b words) (fed-size l b words ∙ size) (p .1))
   where
     by : (e : Bool)
-        → ((s : State) (m : ℕ) (stored : List ℕ) → length stored ≡ 16384 → told (run (replay (s .device) noLine m) (s .cells) stored) bytes ≡ answersFrom (readFrom noLine stored) m bytes s)
-        → told (fed (run (replay r l n) cells words) b) bytes ≡ answersFrom (readFrom (fedLine l b (length words)) (fedWords l b words)) n bytes (state r cells)
-        → (if e then answered (run (replay r l n) cells words) else [])
-        ++ toldOver (if e then ended (run (replay r l n) cells words) else fed (run (replay r l n) cells words) b) bytes
-        ++ closing (runOver (if e then ended (run (replay r l n) cells words) else fed (run (replay r l n) cells words) b) bytes)
-        ≡ answersOn e (readFrom l words) n b (λ next m. answersFrom next m bytes) (state r cells)
+        → ((s : State) (m : ℕ) (stored : List ℕ) → length stored ≡ 16384 → told (run (replay (s .device) noLine m) (s .lent) stored) bytes ≡ answersFrom (readFrom noLine stored) m bytes s)
+        → told (fed (run (replay r l n) lent words) b) bytes ≡ answersFrom (readFrom (fedLine l b (length words)) (fedWords l b words)) n bytes (state r lent)
+        → (if e then answered (run (replay r l n) lent words) else [])
+        ++ toldOver (if e then ended (run (replay r l n) lent words) else fed (run (replay r l n) lent words) b) bytes
+        ++ closing (runOver (if e then ended (run (replay r l n) lent words) else fed (run (replay r l n) lent words) b) bytes)
+        ≡ answersOn e (readFrom l words) n b (λ next m. answersFrom next m bytes) (state r lent)
     by true next on =
-        let s = left (run (replay r l n) cells words) in
+        let s = left (run (replay r l n) lent words) in
         let m = (n + 1) % 2 ^ 64 in
         let held = ended-size l words ∙ size in
         rw append-assoc
-        (ap (λ (rest : List ℕ). tells (readFrom l words []) n r cells ++ rest)
+        (ap (λ (rest : List ℕ). tells (readFrom l words []) n r lent ++ rest)
         (next s m (endedWords l words) held
         ∙ same-answers bytes (readFrom noLine (endedWords l words)) meaning m s (p .1) (λ rest q. reads-meaning (endedWords l words) rest held q)))
     by false next on = on
 
 -- ---- the whole: what is written for a script, to the byte
-pub script-answers : (bytes cells words : List ℕ) → length words ≡ 16384 → Bytes bytes → told (run begun cells words) bytes ≡ answers bytes (state fresh cells)
-script-answers bytes cells words size p =
-    answers-on bytes fresh noLine 1 cells words size p
-    ∙ same-answers bytes (readFrom noLine words) meaning 1 (state fresh cells) p (λ rest q. reads-meaning words rest size q)
+pub script-answers : (bytes : List ℕ) (lent : Lent) (words : List ℕ) → length words ≡ 16384 → Bytes bytes → told (run begun lent words) bytes ≡ answers bytes (state fresh lent)
+script-answers bytes lent words size p =
+    answers-on bytes fresh noLine 1 lent words size p
+    ∙ same-answers bytes (readFrom noLine words) meaning 1 (state fresh lent) p (λ rest q. reads-meaning words rest size q)

@@ -1,10 +1,11 @@
--- A script's run, byte by byte: what the device, its cells and the line under way are, and what is told.
+-- A script's run, byte by byte: what the device, what it is lent and the line under way are, and what is told.
 use Prim.Native.Nat.{ℕ, _+_, _%_, _^_}
 use mathlib.Core.List.{List, [], _∷_, _++_}
 use lib.Dec.{eqb}
 use lib.ListN.{length}
 use Rattle.plain.specs.declared.Device.{Device}
 use Rattle.plain.specs.Choice.{if_then_else_}
+use Rattle.plain.specs.Lent.{Lent}
 use Rattle.plain.specs.Record.{fresh}
 use Rattle.script.specs.declared.Line.{Line}
 use Rattle.script.specs.Lines.{noLine, fedLine, fedWords, endedOrder, endedWords}
@@ -22,34 +23,34 @@ replay r l n = record { device = r; line = l; number = n }
 abbrev pub begun : Replay
 begun = replay fresh noLine 1
 
--- with the cells, and the words of the line under way
+-- with the cells and the one-time words, and the words of the line under way
 pub record Run : Type 0 where
   pub replay : Replay
-  pub cells : List ℕ
+  pub lent : Lent
   pub words : List ℕ
 
-abbrev pub run : Replay → (cells words : List ℕ) → Run
-run p cells words = record { replay = p; cells = cells; words = words }
+abbrev pub run : Replay → Lent → (words : List ℕ) → Run
+run p l words = record { replay = p; lent = l; words = words }
 
 -- the line ends: what it asks for is done, and the next begins
 unfoldable pub ended : Run → Run
 ended s =
     let p = s .replay in
     let words = endedWords (p .line) (s .words) in
-    let done = does (seen (endedOrder (p .line) (length (s .words))) words) (p .device) (s .cells) in
-    run (replay (done .device) noLine ((p .number + 1) % 2 ^ 64)) (done .cells) words
+    let done = does (seen (endedOrder (p .line) (length (s .words))) words) (p .device) (s .lent) in
+    run (replay (done .device) noLine ((p .number + 1) % 2 ^ 64)) (done .lent) words
 
 -- and what it is answered with
 unfoldable pub answered : Run → List ℕ
 answered s =
     let p = s .replay in
-    tells (seen (endedOrder (p .line) (length (s .words))) (endedWords (p .line) (s .words))) (p .number) (p .device) (s .cells)
+    tells (seen (endedOrder (p .line) (length (s .words))) (endedWords (p .line) (s .words))) (p .number) (p .device) (s .lent)
 
 -- a byte of it
 unfoldable pub fed : Run → (byte : ℕ) → Run
 fed s b =
     let p = s .replay in
-    run (replay (p .device) (fedLine (p .line) b (length (s .words))) (p .number)) (s .cells) (fedWords (p .line) b (s .words))
+    run (replay (p .device) (fedLine (p .line) b (length (s .words))) (p .number)) (s .lent) (fedWords (p .line) b (s .words))
 
 -- "lines end with LF"
 unfoldable pub runOver : Run → (bytes : List ℕ) → Run
@@ -65,7 +66,7 @@ toldOver s (b ∷ bytes) = (if eqb b 10 then answered s else []) ++ toldOver (if
 
 -- what a run leaves
 abbrev pub left : Run → State
-left s = state (ended s .replay .device) (ended s .cells)
+left s = state (ended s .replay .device) (ended s .lent)
 
 -- and what it is answered with there
 abbrev pub closing : Run → List ℕ

@@ -2,6 +2,7 @@
 ghost use mathlib.Core.Path.{_≡_};
 ghost use Prim.Native.Nat.{_*_, _≤_};
 ghost use lib.ListN.{length};
+ghost use Rattle.plain.specs.Lent.{lent};
 ghost use Rattle.printing.specs.Put.{Put};
 ghost use Rattle.playing.specs.Runs.{begun, run, runOver, toldOver, closing};
 use plain::Device;
@@ -36,13 +37,14 @@ pub fn replayed(
     replay: Replay,
     input: &[u8],
     cells: &mut [u16],
+    otp: &mut [u16],
     words: &mut [u16],
     out: &mut [u8],
 ) -> Played
-    requires { ⌜ length (now cells) ≡ 16384 ⌝ }
+    requires { ⌜ (length (now cells) ≡ 16384) × (length (now otp) ≡ 256) ⌝ }
     requires { ⌜ 256 * length (now input) ≤ length (now out) ⌝ }
-    ensures { λ r. ⌜ run (r .replay) (now (cells .exit)) (now (words .exit)) ≡ runOver (run replay (now (cells .entry)) (now (words .entry))) (now (input .entry)) ⌝ }
-    ensures { λ r. ⌜ Put (now (out .entry)) 0 (now (out .exit)) (r .end) (toldOver (run replay (now (cells .entry)) (now (words .entry))) (now (input .entry))) ⌝ }
+    ensures { λ r. ⌜ run (r .replay) (lent (now (cells .exit)) (now (otp .exit))) (now (words .exit)) ≡ runOver (run replay (lent (now (cells .entry)) (now (otp .entry))) (now (words .entry))) (now (input .entry)) ⌝ }
+    ensures { λ r. ⌜ Put (now (out .entry)) 0 (now (out .exit)) (r .end) (toldOver (run replay (lent (now (cells .entry)) (now (otp .entry))) (now (words .entry))) (now (input .entry))) ⌝ }
 {
     let mut device = replay.device;
     let mut line = replay.line;
@@ -53,7 +55,7 @@ pub fn replayed(
         let byte = input[at];
         if byte == b'\n' {
             let order = script::ended(line, words);
-            let told = acting::act(device, order, cells, words, number, out, end);
+            let told = acting::act(device, order, cells, otp, words, number, out, end);
             device = told.device;
             end = told.end;
             line = script::begin();
@@ -76,16 +78,22 @@ pub fn replayed(
 }
 
 // The end of the input ends a last line as an LF does, and the device's last line is told.
-pub fn finished(replay: Replay, cells: &mut [u16], words: &mut [u16], out: &mut [u8]) -> usize
-    requires { ⌜ length (now cells) ≡ 16384 ⌝ }
-    requires { ⌜ 334 ≤ length (now out) ⌝ }
-    ensures { λ r. ⌜ Put (now (out .entry)) 0 (now (out .exit)) r (closing (run replay (now (cells .entry)) (now (words .entry)))) ⌝ }
+pub fn finished(
+    replay: Replay,
+    cells: &mut [u16],
+    otp: &mut [u16],
+    words: &mut [u16],
+    out: &mut [u8],
+) -> usize
+    requires { ⌜ (length (now cells) ≡ 16384) × (length (now otp) ≡ 256) ⌝ }
+    requires { ⌜ 376 ≤ length (now out) ⌝ }
+    ensures { λ r. ⌜ Put (now (out .entry)) 0 (now (out .exit)) r (closing (run replay (lent (now (cells .entry)) (now (otp .entry))) (now (words .entry)))) ⌝ }
 {
     let device = replay.device;
     let line = replay.line;
     let order = script::ended(line, words);
-    let told = acting::act(device, order, cells, words, replay.number, out, 0);
+    let told = acting::act(device, order, cells, otp, words, replay.number, out, 0);
     let left = told.device;
     let told_to = told.end;
-    answering::last(left, cells, out, told_to)
+    answering::last(left, cells, otp, out, told_to)
 }

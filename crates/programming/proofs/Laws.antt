@@ -1,8 +1,7 @@
--- What a wait comes to while a program runs, alone or inside a suspended erase.
+-- What a wait comes to while a program runs: alone, inside a suspended erase or in the one-time block.
 use Prim.Native.Nat.{ℕ, _-_, _*_, _<_, _≤_}
 use mathlib.Core.Path.{_≡_, refl, sym, ap, _∙_}
 use mathlib.Core.Bool.{true}
-use mathlib.Core.List.{List}
 use Rattle.geometry.specs.declared.Part.{Part}
 use Rattle.meter.specs.declared.Meter.{Meter}
 use Rattle.meter.specs.Meter.{metered}
@@ -11,15 +10,16 @@ use Rattle.plain.specs.declared.Erase.{Erase}
 use Rattle.plain.specs.declared.Inside.{Inside}
 use Rattle.plain.specs.declared.Inside.the-variants.{Nothing, Runs}
 use Rattle.plain.specs.declared.SuspendedErase.{SuspendedErase}
+use Rattle.plain.specs.declared.Suspension.the-variants.{Unsuspended, OfErase, Entered}
 use Rattle.plain.specs.declared.Operation.{Operation}
-use Rattle.plain.specs.declared.Operation.the-variants.{Idle, Programming, EraseSuspended}
+use Rattle.plain.specs.declared.Operation.the-variants.{Idle, Programming, EraseSuspended, InOneTime}
 use Rattle.plain.specs.Figures.{runningCurrent, standbyCurrent}
 use Rattle.plain.specs.Lent.{Lent}
 use Rattle.plain.specs.Programs.{finished}
 use Rattle.plain.specs.Record.{programLeft, suspended}
 use Rattle.plain.specs.Time.{moment}
-use Rattle.plain.proofs.Facts.{ProgramFacts, programming, inside-runs}
-use Rattle.plain.proofs.InTime.{idle-still, erase-still, program-running, inside-running}
+use Rattle.plain.proofs.Facts.{ProgramFacts, programming, inside-runs, entered-runs}
+use Rattle.plain.proofs.InTime.{idle-still, erase-still, entered-still, program-running, inside-running, entered-running}
 use Rattle.plain.proofs.Ticks.{still, drift, passes}
 use Rattle.moments.specs.Moments.{Passable, moved}
 use Rattle.moments.proofs.Passed.{Passed, passed, still-passed}
@@ -32,11 +32,14 @@ pub inside-is : (s : SuspendedErase) (i : Inside) → s .inside ≡ i → EraseS
 inside-is s i e = ap (λ (x : Inside). EraseSuspended (suspended (s .erase) x)) (sym e)
 
 -- what soundness says of the program
-pub alone-facts : (p : Part) (m : Meter) (q : Program) (length n : ℕ) → (f : Passable p m (Programming q) length n) → ProgramFacts p (f .bits) q
-alone-facts p m q length n f = programming p (f .bits) q (f .sound)
+pub alone-facts : (p : Part) (m : Meter) (q : Program) (l : Lent) (n : ℕ) → (f : Passable p m (Programming q) l n) → ProgramFacts p (f .bits) Unsuspended q
+alone-facts p m q l n f = programming p (f .bits) q (f .sound)
 
-pub inside-facts : (p : Part) (m : Meter) (e : Erase) (q : Program) (length n : ℕ) → (f : Passable p m (EraseSuspended (suspended e (Runs q))) length n) → ProgramFacts p (f .bits) q
-inside-facts p m e q length n f = inside-runs p (f .bits) (suspended e (Runs q)) q (f .sound) refl .program
+pub inside-facts : (p : Part) (m : Meter) (e : Erase) (q : Program) (l : Lent) (n : ℕ) → (f : Passable p m (EraseSuspended (suspended e (Runs q))) l n) → ProgramFacts p (f .bits) (OfErase e) q
+inside-facts p m e q l n f = inside-runs p (f .bits) (suspended e (Runs q)) q (f .sound) refl .program
+
+pub entered-facts : (p : Part) (m : Meter) (q : Program) (l : Lent) (n : ℕ) → (f : Passable p m (InOneTime (Runs q)) l n) → ProgramFacts p (f .bits) Entered q
+entered-facts p m q l n f = entered-runs p (f .bits) q (f .sound)
 
 module _ (p : Part) (m : Meter) (l : Lent) (n : ℕ) where
   abbrev runs : ℕ → Meter
@@ -47,29 +50,47 @@ module _ (p : Part) (m : Meter) (l : Lent) (n : ℕ) where
   ended k = metered (runs k) (n - k) ((n - k) * standbyCurrent p)
 
   pub suspended-stands : (s : SuspendedErase) → s .inside ≡ Nothing
-      → Passed p n (moment m (EraseSuspended s) l) (moved (moment (metered m n (n * standbyCurrent p)) (EraseSuspended s) l)) (l .cells)
+      → Passed p n (moment m (EraseSuspended s) l) (moved (moment (metered m n (n * standbyCurrent p)) (EraseSuspended s) l)) l
   suspended-stands s d = rw (← inside-is s Nothing d) (still-passed p m (EraseSuspended (suspended (s .erase) Nothing)) l n (erase-still p (s .erase)))
 
-  pub program-goes-on : (q : Program) → n < q .left → Passed p n (moment m (Programming q) l) (moved (moment (runs n) (Programming (programLeft q (q .left - n))) l)) (l .cells)
+  pub program-goes-on : (q : Program) → n < q .left → Passed p n (moment m (Programming q) l) (moved (moment (runs n) (Programming (programLeft q (q .left - n))) l)) l
   program-goes-on q h =
       passed p n (moment m (Programming q) l) (moment (runs n) (Programming (programLeft q (q .left - n))) l)
       (drift p _ _ _ _ (program-running p q) n (q .left) m l h)
 
   pub program-ends : (q : Program) → 1 ≤ q .left → q .left ≤ n
-      → Passed p n (moment m (Programming q) l) (moved (moment (ended (q .left)) Idle l)) (finished (q .writes) l .cells)
+      → Passed p n (moment m (Programming q) l) (moved (moment (ended (q .left)) Idle l)) (finished (q .writes) l)
   program-ends q s h =
       passed p n (moment m (Programming q) l) (moment (ended (q .left)) Idle (finished (q .writes) l))
       (passes p _ _ _ _ (program-running p q) n (q .left) m l s h
       ∙ still p Idle (standbyCurrent p) (idle-still p) (n - q .left) (runs (q .left)) (finished (q .writes) l))
 
-  pub inside-goes-on : (e : Erase) (q : Program) → n < q .left → Passed p n (moment m (inside e q) l) (moved (moment (runs n) (inside e (programLeft q (q .left - n))) l)) (l .cells)
+  pub inside-goes-on : (e : Erase) (q : Program) → n < q .left → Passed p n (moment m (inside e q) l) (moved (moment (runs n) (inside e (programLeft q (q .left - n))) l)) l
   inside-goes-on e q h =
       passed p n (moment m (inside e q) l) (moment (runs n) (inside e (programLeft q (q .left - n))) l)
       (drift p _ _ _ _ (inside-running p e q) n (q .left) m l h)
 
   pub inside-ends : (e : Erase) (q : Program) → 1 ≤ q .left → q .left ≤ n
-      → Passed p n (moment m (inside e q) l) (moved (moment (ended (q .left)) (EraseSuspended (suspended e Nothing)) l)) (finished (q .writes) l .cells)
+      → Passed p n (moment m (inside e q) l) (moved (moment (ended (q .left)) (EraseSuspended (suspended e Nothing)) l)) (finished (q .writes) l)
   inside-ends e q s h =
       passed p n (moment m (inside e q) l) (moment (ended (q .left)) (EraseSuspended (suspended e Nothing)) (finished (q .writes) l))
       (passes p _ _ _ _ (inside-running p e q) n (q .left) m l s h
       ∙ still p (EraseSuspended (suspended e Nothing)) (standbyCurrent p) (erase-still p e) (n - q .left) (runs (q .left)) (finished (q .writes) l))
+
+  -- ---- in the one-time block
+
+  pub entered-stands : (i : Inside) → i ≡ Nothing → Passed p n (moment m (InOneTime i) l) (moved (moment (metered m n (n * standbyCurrent p)) (InOneTime i) l)) l
+  entered-stands i d = rw d (still-passed p m (InOneTime Nothing) l n (entered-still p))
+
+  pub entered-goes-on : (q : Program) → n < q .left
+      → Passed p n (moment m (InOneTime (Runs q)) l) (moved (moment (runs n) (InOneTime (Runs (programLeft q (q .left - n)))) l)) l
+  entered-goes-on q h =
+      passed p n (moment m (InOneTime (Runs q)) l) (moment (runs n) (InOneTime (Runs (programLeft q (q .left - n)))) l)
+      (drift p _ _ _ _ (entered-running p q) n (q .left) m l h)
+
+  pub entered-ends : (q : Program) → 1 ≤ q .left → q .left ≤ n
+      → Passed p n (moment m (InOneTime (Runs q)) l) (moved (moment (ended (q .left)) (InOneTime Nothing) l)) (finished (q .writes) l)
+  entered-ends q s h =
+      passed p n (moment m (InOneTime (Runs q)) l) (moment (ended (q .left)) (InOneTime Nothing) (finished (q .writes) l))
+      (passes p _ _ _ _ (entered-running p q) n (q .left) m l s h
+      ∙ still p (InOneTime Nothing) (standbyCurrent p) (entered-still p) (n - q .left) (runs (q .left)) (finished (q .writes) l))

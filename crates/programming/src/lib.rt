@@ -2,13 +2,11 @@
 ghost use mathlib.Core.Path.{_≡_};
 ghost use mathlib.Core.Bool.{true};
 ghost use Prim.Native.Nat.{_*_, _-_, _≤_};
-ghost use lib.ListN.{length};
-ghost use Rattle.geometry.specs.Parts.{wordCount};
 ghost use Rattle.meter.specs.Meter.{metered};
 ghost use Rattle.plain.specs.declared.Inside.the-variants.{Runs};
-ghost use Rattle.plain.specs.declared.Operation.the-variants.{Programming, EraseSuspended};
+ghost use Rattle.plain.specs.declared.Operation.the-variants.{Programming, EraseSuspended, InOneTime};
 ghost use Rattle.plain.specs.Figures.{runningCurrent, standbyCurrent};
-ghost use Rattle.plain.specs.Lent.{lent};
+ghost use Rattle.plain.specs.Lent.{lent, Whole};
 ghost use Rattle.plain.specs.Programs.{liesIn, finished};
 ghost use Rattle.plain.specs.Record.{programLeft, suspended};
 ghost use Rattle.plain.specs.Time.{moment, ticks};
@@ -22,10 +20,18 @@ use plain::Operation;
 use plain::Program;
 use plain::SuspendedErase;
 
-pub fn pass_program(part: Part, meter: Meter, q: Program, cells: &mut [u16], n: u64) -> Moved
-    requires { ⌜ Passable part meter (Programming q) (length (now cells)) n ⌝ }
-    ensures { λ r. ⌜ r ≡ moved (ticks part n (moment meter (Programming q) (lent (now (cells .entry))))) ⌝ }
-    ensures { λ r. ⌜ now (cells .exit) ≡ ticks part n (moment meter (Programming q) (lent (now (cells .entry)))) .lent .cells ⌝ }
+pub fn pass_program(
+    part: Part,
+    meter: Meter,
+    q: Program,
+    cells: &mut [u16],
+    otp: &mut [u16],
+    n: u64,
+) -> Moved
+    requires { ⌜ Passable part meter (Programming q) (lent (now cells) (now otp)) n ⌝ }
+    ensures { λ r. ⌜ r ≡ moved (ticks part n (moment meter (Programming q) (lent (now (cells .entry)) (now (otp .entry))))) ⌝ }
+    ensures { λ r. ⌜ now (cells .exit) ≡ ticks part n (moment meter (Programming q) (lent (now (cells .entry)) (now (otp .entry)))) .lent .cells ⌝ }
+    ensures { λ r. ⌜ now (otp .exit) ≡ ticks part n (moment meter (Programming q) (lent (now (cells .entry)) (now (otp .entry)))) .lent .otp ⌝ }
 {
     let left = q.left;
     if n < left {
@@ -35,7 +41,7 @@ pub fn pass_program(part: Part, meter: Meter, q: Program, cells: &mut [u16], n: 
         };
     }
     Moved {
-        meter: end_program(part, meter, q, cells, n),
+        meter: end_program(part, meter, q, cells, otp, n),
         operation: Operation::Idle,
     }
 }
@@ -46,11 +52,13 @@ pub fn pass_suspended(
     meter: Meter,
     s: SuspendedErase,
     cells: &mut [u16],
+    otp: &mut [u16],
     n: u64,
 ) -> Moved
-    requires { ⌜ Passable part meter (EraseSuspended s) (length (now cells)) n ⌝ }
-    ensures { λ r. ⌜ r ≡ moved (ticks part n (moment meter (EraseSuspended s) (lent (now (cells .entry))))) ⌝ }
-    ensures { λ r. ⌜ now (cells .exit) ≡ ticks part n (moment meter (EraseSuspended s) (lent (now (cells .entry)))) .lent .cells ⌝ }
+    requires { ⌜ Passable part meter (EraseSuspended s) (lent (now cells) (now otp)) n ⌝ }
+    ensures { λ r. ⌜ r ≡ moved (ticks part n (moment meter (EraseSuspended s) (lent (now (cells .entry)) (now (otp .entry))))) ⌝ }
+    ensures { λ r. ⌜ now (cells .exit) ≡ ticks part n (moment meter (EraseSuspended s) (lent (now (cells .entry)) (now (otp .entry)))) .lent .cells ⌝ }
+    ensures { λ r. ⌜ now (otp .exit) ≡ ticks part n (moment meter (EraseSuspended s) (lent (now (cells .entry)) (now (otp .entry)))) .lent .otp ⌝ }
 {
     let inside = s.inside;
     let erase = s.erase;
@@ -59,7 +67,7 @@ pub fn pass_suspended(
             meter: moments::stood_by(part, meter, n),
             operation: Operation::EraseSuspended(s),
         },
-        Inside::Runs(q) => pass_inside(part, meter, erase, q, cells, n),
+        Inside::Runs(q) => pass_inside(part, meter, erase, q, cells, otp, n),
     }
 }
 
@@ -69,11 +77,13 @@ fn pass_inside(
     erase: Erase,
     q: Program,
     cells: &mut [u16],
+    otp: &mut [u16],
     n: u64,
 ) -> Moved
-    requires { ⌜ Passable part meter (EraseSuspended (suspended erase (Runs q))) (length (now cells)) n ⌝ }
-    ensures { λ r. ⌜ r ≡ moved (ticks part n (moment meter (EraseSuspended (suspended erase (Runs q))) (lent (now (cells .entry))))) ⌝ }
-    ensures { λ r. ⌜ now (cells .exit) ≡ ticks part n (moment meter (EraseSuspended (suspended erase (Runs q))) (lent (now (cells .entry)))) .lent .cells ⌝ }
+    requires { ⌜ Passable part meter (EraseSuspended (suspended erase (Runs q))) (lent (now cells) (now otp)) n ⌝ }
+    ensures { λ r. ⌜ r ≡ moved (ticks part n (moment meter (EraseSuspended (suspended erase (Runs q))) (lent (now (cells .entry)) (now (otp .entry))))) ⌝ }
+    ensures { λ r. ⌜ now (cells .exit) ≡ ticks part n (moment meter (EraseSuspended (suspended erase (Runs q))) (lent (now (cells .entry)) (now (otp .entry)))) .lent .cells ⌝ }
+    ensures { λ r. ⌜ now (otp .exit) ≡ ticks part n (moment meter (EraseSuspended (suspended erase (Runs q))) (lent (now (cells .entry)) (now (otp .entry)))) .lent .otp ⌝ }
 {
     let left = q.left;
     if n < left {
@@ -86,7 +96,7 @@ fn pass_inside(
         };
     }
     Moved {
-        meter: end_program(part, meter, q, cells, n),
+        meter: end_program(part, meter, q, cells, otp, n),
         operation: Operation::EraseSuspended(SuspendedErase {
             erase: erase,
             inside: Inside::Nothing,
@@ -94,17 +104,74 @@ fn pass_inside(
     }
 }
 
+// The one-time block stays entered when a program in it ends.
+pub fn pass_entered(
+    part: Part,
+    meter: Meter,
+    inside: Inside,
+    cells: &mut [u16],
+    otp: &mut [u16],
+    n: u64,
+) -> Moved
+    requires { ⌜ Passable part meter (InOneTime inside) (lent (now cells) (now otp)) n ⌝ }
+    ensures { λ r. ⌜ r ≡ moved (ticks part n (moment meter (InOneTime inside) (lent (now (cells .entry)) (now (otp .entry))))) ⌝ }
+    ensures { λ r. ⌜ now (cells .exit) ≡ ticks part n (moment meter (InOneTime inside) (lent (now (cells .entry)) (now (otp .entry)))) .lent .cells ⌝ }
+    ensures { λ r. ⌜ now (otp .exit) ≡ ticks part n (moment meter (InOneTime inside) (lent (now (cells .entry)) (now (otp .entry)))) .lent .otp ⌝ }
+{
+    match inside {
+        Inside::Nothing => Moved {
+            meter: moments::stood_by(part, meter, n),
+            operation: Operation::InOneTime(inside),
+        },
+        Inside::Runs(q) => pass_one_time(part, meter, q, cells, otp, n),
+    }
+}
+
+fn pass_one_time(
+    part: Part,
+    meter: Meter,
+    q: Program,
+    cells: &mut [u16],
+    otp: &mut [u16],
+    n: u64,
+) -> Moved
+    requires { ⌜ Passable part meter (InOneTime (Runs q)) (lent (now cells) (now otp)) n ⌝ }
+    ensures { λ r. ⌜ r ≡ moved (ticks part n (moment meter (InOneTime (Runs q)) (lent (now (cells .entry)) (now (otp .entry))))) ⌝ }
+    ensures { λ r. ⌜ now (cells .exit) ≡ ticks part n (moment meter (InOneTime (Runs q)) (lent (now (cells .entry)) (now (otp .entry)))) .lent .cells ⌝ }
+    ensures { λ r. ⌜ now (otp .exit) ≡ ticks part n (moment meter (InOneTime (Runs q)) (lent (now (cells .entry)) (now (otp .entry)))) .lent .otp ⌝ }
+{
+    let left = q.left;
+    if n < left {
+        return Moved {
+            meter: moments::ran(part, meter, n),
+            operation: Operation::InOneTime(Inside::Runs(with_left(q, left - n))),
+        };
+    }
+    Moved {
+        meter: end_program(part, meter, q, cells, otp, n),
+        operation: Operation::InOneTime(Inside::Nothing),
+    }
+}
+
 // A program ends within the wait: its word is written, and the rest of the wait draws the standby current.
-fn end_program(part: Part, meter: Meter, q: Program, cells: &mut [u16], n: u64) -> Meter
+fn end_program(
+    part: Part,
+    meter: Meter,
+    q: Program,
+    cells: &mut [u16],
+    otp: &mut [u16],
+    n: u64,
+) -> Meter
     requires { ⌜ Room part meter n ⌝ }
-    requires { ⌜ (length (now cells) ≡ wordCount part) × (liesIn part (q .writes) ≡ true) ⌝ }
+    requires { ⌜ Whole part (lent (now cells) (now otp)) × (liesIn part (q .writes) ≡ true) ⌝ }
     requires { ⌜ q .left ≤ n ⌝ }
     ensures { λ r. ⌜ r ≡ metered (metered meter (q .left) (q .left * runningCurrent part)) (n - q .left) ((n - q .left) * standbyCurrent part) ⌝ }
-    ensures { λ r. ⌜ now (cells .exit) ≡ finished (q .writes) (lent (now (cells .entry))) .cells ⌝ }
+    ensures { λ r. ⌜ now (cells .exit) ≡ finished (q .writes) (lent (now (cells .entry)) (now (otp .entry))) .cells ⌝ }
+    ensures { λ r. ⌜ now (otp .exit) ≡ finished (q .writes) (lent (now (cells .entry)) (now (otp .entry))) .otp ⌝ }
 {
     let left = q.left;
     let writes = q.writes;
-    programs::finish(part, writes, cells);
+    programs::finish(part, writes, cells, otp);
     let ended = moments::ran(part, meter, left);
     moments::stood_by(part, ended, n - left)
 }

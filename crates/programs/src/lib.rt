@@ -3,33 +3,47 @@ ghost use mathlib.Core.Path.{_≡_};
 ghost use mathlib.Core.Bool.{true};
 ghost use Prim.Native.Nat.{_≤_};
 ghost use lib.ListN.{length};
-ghost use Rattle.geometry.specs.Parts.{wordCount};
-ghost use Rattle.plain.specs.Lent.{lent};
-ghost use Rattle.plain.specs.Programs.{writing, firstWord, liesIn, blockWritten, bankWritten, dq7, raises, finished, debrisWords, cutOff};
+ghost use Rattle.plain.specs.Lent.{lent, Whole};
+ghost use Rattle.plain.specs.Programs.{writing, firstWord, arrayWritten, liesIn, blockWritten, bankWritten, barred, barredAs, dq7, raises, finished, debrisWords, cutOff};
 use geometry::Part;
+use plain::Array;
+use plain::Refusal;
 use plain::Written;
+use plain::figures;
+use protection::Protection;
 
 // "address and all 16 data bits of a program"
-pub fn writing(address: usize, word: u16) -> Written
-    ensures { λ r. ⌜ r ≡ writing address word ⌝ }
+pub fn writing(array: Array, address: usize, word: u16) -> Written
+    ensures { λ r. ⌜ r ≡ writing array address word ⌝ }
 {
     Written {
+        array: array,
         at: address,
         word: word,
     }
 }
 
-// The word that it is named by.
+// The word that it is named by, and its array.
 pub fn first_word(written: Written) -> usize
     ensures { λ r. ⌜ r ≡ firstWord written ⌝ }
 {
     written.at
 }
 
+pub fn array_written(written: Written) -> Array
+    ensures { λ r. ⌜ r ≡ arrayWritten written ⌝ }
+{
+    written.array
+}
+
 pub fn lies_in(part: Part, written: Written) -> bool
     ensures { λ r. ⌜ r ≡ liesIn part written ⌝ }
 {
-    written.at < part.words()
+    let array = written.array;
+    match array {
+        Array::Main => written.at < part.words(),
+        Array::OneTime => written.at < figures::OTP_WORDS,
+    }
 }
 
 pub fn block_written(part: Part, written: Written) -> usize
@@ -44,6 +58,27 @@ pub fn bank_written(part: Part, written: Written) -> usize
     part.bank_of(written.at)
 }
 
+// PROTECTED by its block; "OTPLOCKED, in the place of PROTECTED", by its word.
+pub fn is_barred(part: Part, bits: Protection, written: Written) -> bool
+    ensures { λ r. ⌜ r ≡ barred part bits written ⌝ }
+{
+    let array = written.array;
+    match array {
+        Array::Main => bits.is_protected(part.block_of(written.at)),
+        Array::OneTime => bits.locks_word(written.at),
+    }
+}
+
+pub fn barred_as(written: Written) -> Refusal
+    ensures { λ r. ⌜ r ≡ barredAs written ⌝ }
+{
+    let array = written.array;
+    match array {
+        Array::Main => Refusal::Protected,
+        Array::OneTime => Refusal::OtpLocked,
+    }
+}
+
 // "Program: DQ7 is the complement of data bit 7"
 pub fn dq7(written: Written) -> bool
     ensures { λ r. ⌜ r ≡ dq7 written ⌝ }
@@ -52,20 +87,29 @@ pub fn dq7(written: Written) -> bool
 }
 
 // Document 02, request 6: "asked for a 1 where the cell has 0", by what the lent word holds now.
-pub fn raises(written: Written, cells: &[u16]) -> bool
-    ensures { λ r. ⌜ r ≡ raises written (lent (now (cells .entry))) ⌝ }
+pub fn raises(written: Written, cells: &[u16], otp: &[u16]) -> bool
+    ensures { λ r. ⌜ r ≡ raises written (lent (now (cells .entry)) (now (otp .entry))) ⌝ }
 {
+    let array = written.array;
     let at = written.at;
-    cells::raises(cells, at, written.word)
+    match array {
+        Array::Main => cells::raises(cells, at, written.word),
+        Array::OneTime => cells::raises(otp, at, written.word),
+    }
 }
 
 // "A program .. leaves old AND data."
-pub fn finish(part: Part, written: Written, cells: &mut [u16])
-    requires { ⌜ (length (now cells) ≡ wordCount part) × (liesIn part written ≡ true) ⌝ }
-    ensures { λ _. ⌜ now (cells .exit) ≡ finished written (lent (now (cells .entry))) .cells ⌝ }
+pub fn finish(part: Part, written: Written, cells: &mut [u16], otp: &mut [u16])
+    requires { ⌜ Whole part (lent (now cells) (now otp)) × (liesIn part written ≡ true) ⌝ }
+    ensures { λ _. ⌜ now (cells .exit) ≡ finished written (lent (now (cells .entry)) (now (otp .entry))) .cells ⌝ }
+    ensures { λ _. ⌜ now (otp .exit) ≡ finished written (lent (now (cells .entry)) (now (otp .entry))) .otp ⌝ }
 {
+    let array = written.array;
     let at = written.at;
-    cells::program(cells, at, written.word);
+    match array {
+        Array::Main => cells::program(cells, at, written.word),
+        Array::OneTime => cells::program(otp, at, written.word),
+    }
 }
 
 // "a begun program needs one" debris word
@@ -76,11 +120,16 @@ pub fn debris_words(written: Written) -> usize
 }
 
 // "The program's word becomes old AND (data OR debris)": the debris starts with its own.
-pub fn cut_off(part: Part, written: Written, cells: &mut [u16], debris: &[u16])
-    requires { ⌜ (length (now cells) ≡ wordCount part) × (liesIn part written ≡ true) ⌝ }
+pub fn cut_off(part: Part, written: Written, cells: &mut [u16], otp: &mut [u16], debris: &[u16])
+    requires { ⌜ Whole part (lent (now cells) (now otp)) × (liesIn part written ≡ true) ⌝ }
     requires { ⌜ debrisWords written ≤ length (now debris) ⌝ }
-    ensures { λ _. ⌜ now (cells .exit) ≡ cutOff written (now (debris .entry)) (lent (now (cells .entry))) .cells ⌝ }
+    ensures { λ _. ⌜ now (cells .exit) ≡ cutOff written (now (debris .entry)) (lent (now (cells .entry)) (now (otp .entry))) .cells ⌝ }
+    ensures { λ _. ⌜ now (otp .exit) ≡ cutOff written (now (debris .entry)) (lent (now (cells .entry)) (now (otp .entry))) .otp ⌝ }
 {
+    let array = written.array;
     let at = written.at;
-    cells::cut_program(cells, at, written.word, debris[0]);
+    match array {
+        Array::Main => cells::cut_program(cells, at, written.word, debris[0]),
+        Array::OneTime => cells::cut_program(otp, at, written.word, debris[0]),
+    }
 }

@@ -9,12 +9,12 @@ use Rattle.geometry.specs.Parts.{blockCount}
 use Rattle.regions.specs.Stray.{strayIn}
 use Rattle.protection.specs.declared.Protection.{Protection}
 
-abbrev pub bits : Blocks → Blocks → Bool → Protection
-bits dyb ppb lock = record { dyb = dyb; ppb = ppb; lock = lock }
+abbrev pub bits : (dyb ppb : Blocks) → (lock sealed : Bool) → Protection
+bits dyb ppb lock sealed = record { dyb = dyb; ppb = ppb; lock = lock; sealed = sealed }
 
 -- "A fresh device has .. no protection"
 abbrev pub freshBits : Protection
-freshBits = bits emptyOf emptyOf false
+freshBits = bits emptyOf emptyOf false false
 
 -- "Here 1 means protected. A block is protected if its DYB or PPB is 1."
 unfoldable pub protectedBy : (dyb ppb : Blocks) → ℕ → Bool
@@ -29,25 +29,42 @@ protectedBlocks p = setOf (λ b. protected p b)
 
 -- "48H: the next write's low four data bits, 1 or 0, set or clear the DYB of its block"
 abbrev pub dybSet : Protection → ℕ → Protection
-dybSet p b = bits (withOf (p .dyb) b) (p .ppb) (p .lock)
+dybSet p b = bits (withOf (p .dyb) b) (p .ppb) (p .lock) (p .sealed)
 
 abbrev pub dybCleared : Protection → ℕ → Protection
-dybCleared p b = bits (withoutOf (p .dyb) b) (p .ppb) (p .lock)
+dybCleared p b = bits (withoutOf (p .dyb) b) (p .ppb) (p .lock) (p .sealed)
 
 -- "60H: then 68H and 48H in the same block set its PPB, or 60H and 40H at any address clear all PPBs"
 abbrev pub ppbSet : Protection → ℕ → Protection
-ppbSet p b = bits (p .dyb) (withOf (p .ppb) b) (p .lock)
+ppbSet p b = bits (p .dyb) (withOf (p .ppb) b) (p .lock) (p .sealed)
 
 abbrev pub ppbsCleared : Protection → Protection
-ppbsCleared p = bits (p .dyb) emptyOf (p .lock)
+ppbsCleared p = bits (p .dyb) emptyOf (p .lock) (p .sealed)
 
 -- "78H: the PPB lock bit is set"
 abbrev pub locked : Protection → Protection
-locked p = bits (p .dyb) (p .ppb) true
+locked p = bits (p .dyb) (p .ppb) true (p .sealed)
 
--- The cut: "all DYBs and the PPB lock bit are 0, PPBs .. stand"
+-- ---- the one-time words (document 02, request 4)
+
+-- "the lower 128 the factory's"
+abbrev pub factoryWords : ℕ
+factoryWords = 128
+
+-- "The factory's words are always locked": so are the customer's once their one lock is set
+unfoldable pub wordLockedBy : (sealed : Bool) → (at : ℕ) → Bool
+wordLockedBy sealed at = ltb at factoryWords || sealed
+
+abbrev pub wordLocked : Protection → (at : ℕ) → Bool
+wordLocked p at = wordLockedBy (p .sealed) at
+
+-- the customer's lock is set
+abbrev pub sealedFor : Protection → Protection
+sealedFor p = bits (p .dyb) (p .ppb) (p .lock) true
+
+-- ---- the cut: "all DYBs and the PPB lock bit are 0, PPBs .. stand"; request 4: it "leaves the locks as they are"
 abbrev pub afterCut : Protection → Protection
-afterCut p = bits emptyOf (p .ppb) false
+afterCut p = bits emptyOf (p .ppb) false (p .sealed)
 
 -- "Chip erase ..; its list is every unprotected block"
 unfoldable pub unprotected : Part → Protection → Blocks

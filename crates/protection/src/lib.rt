@@ -1,14 +1,19 @@
 // Which blocks are protected: a DYB and a PPB for each block, and the bit that locks the PPBs (document 01, "Command
-// cycles"). 1 means protected.
+// cycles"); and which one-time words are locked (document 02, request 4). 1 means protected.
 ghost use mathlib.Core.Path.{_≡_};
-ghost use Rattle.protection.specs.Protection.{freshBits, dybSet, dybCleared, ppbSet, ppbsCleared, locked, afterCut, protected, protectedBlocks, unprotected, strayBits};
+ghost use Rattle.protection.specs.Protection.{freshBits, dybSet, dybCleared, ppbSet, ppbsCleared, locked, sealedFor, wordLocked, afterCut, protected, protectedBlocks, unprotected, strayBits};
 use blocks::Blocks;
 use geometry::Part;
+
+// The lower one-time words are the factory's.
+const FACTORY_WORDS: usize = 128;
 
 pub struct Protection {
     pub dyb: Blocks,
     pub ppb: Blocks,
     pub lock: bool,
+    // The customer's lock of the one-time words.
+    pub sealed: bool,
 }
 
 impl Protection {
@@ -19,6 +24,7 @@ impl Protection {
             dyb: Blocks::empty(),
             ppb: Blocks::empty(),
             lock: false,
+            sealed: false,
         }
     }
 
@@ -31,6 +37,7 @@ impl Protection {
             dyb: dyb,
             ppb: ppb,
             lock: self.lock,
+            sealed: self.sealed,
         }
     }
 
@@ -43,6 +50,7 @@ impl Protection {
             dyb: dyb,
             ppb: ppb,
             lock: self.lock,
+            sealed: self.sealed,
         }
     }
 
@@ -55,6 +63,7 @@ impl Protection {
             dyb: dyb,
             ppb: ppb,
             lock: self.lock,
+            sealed: self.sealed,
         }
     }
 
@@ -66,6 +75,7 @@ impl Protection {
             dyb: dyb,
             ppb: Blocks::empty(),
             lock: self.lock,
+            sealed: self.sealed,
         }
     }
 
@@ -78,6 +88,21 @@ impl Protection {
             dyb: dyb,
             ppb: ppb,
             lock: true,
+            sealed: self.sealed,
+        }
+    }
+
+    // Once set it is set for ever: nothing here clears it.
+    pub fn with_seal(self) -> Self
+        ensures { λ r. ⌜ r ≡ sealedFor self ⌝ }
+    {
+        let dyb = self.dyb;
+        let ppb = self.ppb;
+        Protection {
+            dyb: dyb,
+            ppb: ppb,
+            lock: self.lock,
+            sealed: true,
         }
     }
 
@@ -89,6 +114,7 @@ impl Protection {
             dyb: Blocks::empty(),
             ppb: ppb,
             lock: false,
+            sealed: self.sealed,
         }
     }
 
@@ -100,6 +126,16 @@ impl Protection {
             return true;
         }
         self.ppb.has(block)
+    }
+
+    // The one check of a one-time word.
+    pub fn locks_word(self, at: usize) -> bool
+        ensures { λ r. ⌜ r ≡ wordLocked self at ⌝ }
+    {
+        if at < FACTORY_WORDS {
+            return true;
+        }
+        self.sealed
     }
 
     pub fn protected_blocks(self) -> Blocks

@@ -2,9 +2,10 @@
 ghost use mathlib.Core.Path.{_≡_};
 ghost use Prim.Native.Nat.{_<_};
 ghost use lib.ListN.{length};
-ghost use Rattle.plain.specs.Lent.{lent};
+ghost use Rattle.plain.specs.Lent.{lent, otpWords};
 ghost use Rattle.plain.specs.Status.{look};
 use geometry::Part;
+use plain::Array;
 use plain::Command;
 use plain::Operation;
 use plain::Seen;
@@ -14,17 +15,19 @@ mod readings;
 mod resting;
 
 // The word that a read sees, and the operation with its toggles afterwards: first the status of what runs in the bank, "after
-// that come identity and 58H reading; then suspension", and "any other read gives the cell".
+// that come identity and 58H reading; then suspension", and "any other read gives the cell", or
+// the one-time word.
 pub fn look(
     part: Part,
     bits: Protection,
     command: Command,
     operation: Operation,
     cells: &[u16],
+    otp: &[u16],
     address: usize,
 ) -> Seen
-    requires { ⌜ address < length (now cells) ⌝ }
-    ensures { λ r. ⌜ r ≡ look part bits command operation (lent (now (cells .entry))) address ⌝ }
+    requires { ⌜ (address < length (now cells)) × (length (now otp) ≡ otpWords) ⌝ }
+    ensures { λ r. ⌜ r ≡ look part bits command operation (lent (now (cells .entry)) (now (otp .entry))) address ⌝ }
 {
     if status::polls(part, operations::running_of(operation), address) {
         let after = status::polled(part, operation, address);
@@ -46,8 +49,13 @@ pub fn look(
             operation: after,
         };
     }
+    let selected = operations::selected(operations::suspension_of(operation), address);
+    let word = match selected {
+        Array::Main => cells[address],
+        Array::OneTime => otp[address],
+    };
     Seen {
-        word: cells[address],
+        word: word,
         operation: operation,
     }
 }

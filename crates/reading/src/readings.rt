@@ -1,4 +1,4 @@
-// Identity reading and 58H reading (document 01, "Command cycles").
+// Identity reading and 58H reading (document 01, "Command cycles"), and that of the customer's lock (document 02, request 4).
 ghost use mathlib.Core.Path.{_≡_};
 ghost use Rattle.plain.specs.Status.{givenAt, identityWord, dybWord, givenWord, readingOn, readingWord};
 use geometry::Part;
@@ -25,6 +25,7 @@ fn given_at(part: Part, reading: Reading, address: usize) -> bool
     match reading {
         Reading::Identity(bank) => part.bank_of(address) == bank,
         Reading::Dybs => true,
+        Reading::OtpLock => true,
     }
 }
 
@@ -45,6 +46,7 @@ fn given_word(part: Part, bits: Protection, reading: Reading, address: usize) ->
     match reading {
         Reading::Identity(_) => identity_word(part, bits, address),
         Reading::Dybs => dyb_word(part, bits, address),
+        Reading::OtpLock => shown(bits.sealed, 1),
     }
 }
 

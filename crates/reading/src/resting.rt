@@ -23,6 +23,7 @@ pub fn rests(part: Part, suspension: Suspension, address: usize) -> bool
             let list = erase.list;
             list.has(part.block_of(address))
         }
+        Suspension::Entered => false,
     }
 }
 
@@ -37,6 +38,7 @@ pub fn rest_word(suspension: Suspension) -> u16
             status_word(programs::dq7(written), true, false, true)
         }
         Suspension::OfErase(erase) => status_word(true, true, false, erase.dq2),
+        Suspension::Entered => 0,
     }
 }
 
@@ -53,6 +55,7 @@ pub fn rested(operation: Operation) -> Operation
         Operation::Recovering(_) => operation,
         Operation::EraseSuspended(suspended) => Operation::EraseSuspended(rest_flipped(suspended)),
         Operation::ChipErasing(_) => operation,
+        Operation::InOneTime(_) => operation,
     }
 }
 

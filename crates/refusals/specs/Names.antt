@@ -2,7 +2,7 @@
 use Prim.Native.Nat.{ℕ}
 use mathlib.Core.List.{List}
 use Rattle.plain.specs.declared.Refusal.{Refusal}
-use Rattle.plain.specs.declared.Refusal.the-variants.{Done, State, Cells, Address, Clock, Debris, Busy, Sequence, Bank, Protected, Suspended, Locked, Raise}
+use Rattle.plain.specs.declared.Refusal.the-variants.{Done, State, Cells, Address, Clock, Debris, Busy, Sequence, Bank, Protected, Suspended, Locked, OtpLocked, Raise}
 use Rattle.printing.specs.Text.{ascii}
 
 -- document 01, "Refusals by number"
@@ -19,4 +19,5 @@ name Bank = ascii "BANK"
 name Protected = ascii "PROTECTED"
 name Suspended = ascii "SUSPENDED"
 name Locked = ascii "LOCKED"
+name OtpLocked = ascii "OTPLOCKED"
 name Raise = ascii "RAISE"

@@ -25,6 +25,7 @@ pub fn name(out: &mut [u8], at: usize, refusal: Refusal) -> usize
         Refusal::Protected => printing::bytes(out, at, b" PROTECTED"),
         Refusal::Suspended => printing::bytes(out, at, b" SUSPENDED"),
         Refusal::Locked => printing::bytes(out, at, b" LOCKED"),
+        Refusal::OtpLocked => printing::bytes(out, at, b" OTPLOCKED"),
         Refusal::Raise => printing::bytes(out, at, b" RAISE"),
     }
 }

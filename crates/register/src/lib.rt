@@ -2,79 +2,49 @@
 // number").
 ghost use mathlib.Core.Path.{_≡_};
 ghost use Rattle.plain.specs.Record.{device, answer};
-ghost use Rattle.plain.specs.Commands.{inErase, written, effected};
+ghost use Rattle.plain.specs.Commands.{written, effected};
 ghost use Rattle.plain.specs.Lent.{lent};
 use decoder::entered;
 use geometry::Part;
 use meter::Meter;
+use operations::running_of;
+use operations::suspension_of;
 use plain::Answer;
 use plain::Command;
 use plain::Device;
 use plain::Effect;
-use plain::Erase;
-use plain::Inside;
 use plain::Operation;
-use plain::Recovery;
 use plain::Refusal;
-use plain::Suspension;
-use plain::figures;
+use plain::Running;
 use protection::Protection;
+use window::in_erase;
 use window::in_window;
 
-// What a write does: an operation that runs decides by itself, else the decoder does.
+// What a write does: what runs decides by itself; while nothing does, the decoder goes by what is suspended or entered.
 pub fn written(
     part: Part,
     bits: Protection,
     operation: Operation,
     command: Command,
     cells: &[u16],
+    otp: &[u16],
     address: usize,
     word: u16,
 ) -> Effect
-    ensures { λ r. ⌜ r ≡ written part bits operation command (lent (now (cells .entry))) address word ⌝ }
+    ensures { λ r. ⌜ r ≡ written part bits operation command (lent (now (cells .entry)) (now (otp .entry))) address word ⌝ }
 {
-    match operation {
-        Operation::Idle => entered(
-            part,
-            bits,
-            Suspension::Unsuspended,
-            command,
-            cells,
-            address,
-            word,
-        ),
-        Operation::Programming(_) => Effect::Stays(Refusal::Busy),
-        Operation::ProgramSuspended(program) => {
-            let suspension = Suspension::OfProgram(program);
-            entered(part, bits, suspension, command, cells, address, word)
+    let running = running_of(operation);
+    match running {
+        Running::Still => {
+            let suspension = suspension_of(operation);
+            entered(part, bits, suspension, command, cells, otp, address, word)
         }
-        Operation::Window(erase) => in_window(part, bits, erase, address, word),
-        Operation::Erasing(erase) => in_erase(part, erase, word),
-        Operation::Recovering(_) => Effect::Stays(Refusal::Busy),
-        Operation::EraseSuspended(suspended) => {
-            let erase = suspended.erase;
-            let suspension = Suspension::OfErase(erase);
-            let inside = suspended.inside;
-            match inside {
-                Inside::Nothing => entered(part, bits, suspension, command, cells, address, word),
-                Inside::Runs(_) => Effect::Stays(Refusal::Busy),
-            }
-        }
-        Operation::ChipErasing(_) => Effect::Stays(Refusal::Busy),
+        Running::Programs(_) => Effect::Stays(Refusal::Busy),
+        Running::Waits(erase) => in_window(part, bits, erase, address, word),
+        Running::Erases(erase) => in_erase(part, erase, word),
+        Running::Recovers(_) => Effect::Stays(Refusal::Busy),
+        Running::ErasesChip(_) => Effect::Stays(Refusal::Busy),
     }
-}
-
-// "B0H during a running block erase starts 20 µs in which the block makes no progress"; any other write is BUSY.
-fn in_erase(part: Part, erase: Erase, word: u16) -> Effect
-    ensures { λ r. ⌜ r ≡ inErase part erase word ⌝ }
-{
-    if word % 256 == 0xb0 {
-        return Effect::Starts(Operation::Recovering(Recovery {
-            erase: erase,
-            left: figures::recovery_time(part),
-        }));
-    }
-    Effect::Stays(Refusal::Busy)
 }
 
 // The answer to a write and the record after it: the table's column "afterwards".

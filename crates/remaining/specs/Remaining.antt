@@ -7,29 +7,34 @@ use Rattle.blocks.specs.Blocks.{has}
 use Rattle.geometry.specs.declared.Part.{Part}
 use Rattle.geometry.specs.Parts.{blockCount}
 use Rattle.protection.specs.declared.Protection.{Protection}
+use Rattle.plain.specs.declared.Array.{Array}
 use Rattle.plain.specs.declared.Operation.{Operation}
 use Rattle.plain.specs.declared.Running.{Running}
 use Rattle.plain.specs.declared.Running.the-variants.{Still, Programs, Waits, Erases, Recovers, ErasesChip}
 use Rattle.plain.specs.Figures.{eraseTime, chipTime}
-use Rattle.plain.specs.Programs.{firstWord}
+use Rattle.plain.specs.Programs.{firstWord, arrayWritten}
 use Rattle.plain.specs.Sound.{operationSound}
 use Rattle.remaining.specs.declared.Change.{Change}
 use Rattle.remaining.specs.declared.Change.the-variants.{Never, WindowEnds, RecoveryEnds, WordDone, BlockDone}
 use Rattle.remaining.specs.declared.Finish.{Finish}
+use Rattle.remaining.specs.declared.WordFinish.{WordFinish}
 
 -- the operation is sound under some protection
 pub record Fits (p : Part) (o : Operation) : Type 0 where
   pub bits : Protection
   pub sound : operationSound p bits o ≡ true
 
--- ---- the next change: the window or a recovery ends, a word or a block is finished
+-- ---- the next change: the window or a recovery ends, a word of one of the arrays or a block is finished
 
 abbrev pub finish : (after at : ℕ) → Finish
 finish n x = record { after = n; at = x }
 
+abbrev pub wordFinish : (after : ℕ) → Array → (at : ℕ) → WordFinish
+wordFinish n y x = record { after = n; array = y; at = x }
+
 unfoldable pub changeOf : Running → Change
 changeOf Still = Never
-changeOf (Programs q) = WordDone (finish (q .left) (firstWord (q .writes)))
+changeOf (Programs q) = WordDone (wordFinish (q .left) (arrayWritten (q .writes)) (firstWord (q .writes)))
 changeOf (Waits e) = WindowEnds (e .left)
 changeOf (Erases e) = BlockDone (finish (e .left) (e .hand))
 changeOf (Recovers r) = RecoveryEnds (r .left)

@@ -6,18 +6,25 @@ ghost use Rattle.plain.specs.Operations.{runningOf};
 ghost use Rattle.remaining.specs.Remaining.{changeOf, toCome, untilEnd, Fits};
 use blocks::Blocks;
 use geometry::Part;
+use plain::Array;
 use plain::Erase;
 use plain::Operation;
 use plain::Running;
 use plain::figures;
 
-// What the device does next by itself: after how many microseconds, and at which word or block.
+// What the device does next by itself: after how many microseconds, and at which word of which array or at which block.
 pub enum Change {
     Never,
     WindowEnds(u64),
     RecoveryEnds(u64),
-    WordDone(Finish),
+    WordDone(WordFinish),
     BlockDone(Finish),
+}
+
+pub struct WordFinish {
+    pub after: u64,
+    pub array: Array,
+    pub at: usize,
 }
 
 pub struct Finish {
@@ -32,8 +39,10 @@ pub fn change_of(running: Running) -> Change
         Running::Still => Change::Never,
         Running::Programs(program) => {
             let written = program.writes;
-            Change::WordDone(Finish {
+            let array = programs::array_written(written);
+            Change::WordDone(WordFinish {
                 after: program.left,
+                array: array,
                 at: programs::first_word(written),
             })
         }

@@ -5,6 +5,8 @@
 fn main() {
     let mut memory = [0xffffu16; 16384];
     let cells: &mut [u16] = &mut memory;
+    let mut one_time = [0xffffu16; 256];
+    let otp: &mut [u16] = &mut one_time;
     let mut room = [0u16; 16384];
     let words: &mut [u16] = &mut room;
     let mut input = [0u8; 256];
@@ -22,12 +24,12 @@ fn main() {
             return;
         }
         if got == 0 {
-            let end = playing::finished(replay, cells, words, &mut answers);
+            let end = playing::finished(replay, cells, otp, words, &mut answers);
             io::write_all(libc::STDOUT_FILENO, &answers[..end]);
             return;
         }
         let count = io::count(got, &input);
-        let played = playing::replayed(replay, &input[..count], cells, words, &mut answers);
+        let played = playing::replayed(replay, &input[..count], cells, otp, words, &mut answers);
         let end = played.end;
         io::write_all(libc::STDOUT_FILENO, &answers[..end]);
         replay = played.replay;

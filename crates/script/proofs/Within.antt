@@ -1,4 +1,4 @@
--- An order has no more words than are lent, and sets no cell past the part.
+-- An order has no more words than are lent, and sets none past the last.
 use Prim.Native.Nat.{ℕ, _+_}
 use mathlib.Core.Bool.{Bool, true, false, _&&_}
 use mathlib.Core.Path.{_≡_, refl}
@@ -6,9 +6,10 @@ use native.Mathlib.Omega.{arith}
 use lib.Dec.{leb, ltb}
 use borrow.Author.Tests.{leb-true, ltb-false}
 use Rattle.language.specs.declared.Order.{Order}
+use Rattle.forms.specs.declared.Target.{Target}
 use Rattle.forms.specs.declared.Form.{Form}
 use Rattle.language.specs.Choice.{if_then_else_}
-use Rattle.script.specs.Orders.{orderOf, cutOf, cellOf}
+use Rattle.script.specs.Orders.{orderOf, cutOf, sizeOf, setting, setOf}
 use Rattle.language.specs.Orders.{Within}
 
 cut-within : (count room : ℕ) → Within (cutOf count room) room
@@ -19,14 +20,15 @@ cut-within count room = by (ltb room count) refl
     by true e = omega arith
     by false e = ltb-false room count e
 
-cell-within : (address count room : ℕ) → Within (cellOf address count room) room
-unfolding cellOf
-cell-within address count room = by (leb count room) (leb (address + count) 16384) refl refl
+set-within : (target : Target) (address count room : ℕ) → Within (setOf target address count room) room
+unfolding setOf
+set-within target address count room = by target (leb count room) (leb (address + count) (sizeOf target)) refl refl
   where
-    by : (b d : Bool) → leb count room ≡ b → leb (address + count) 16384 ≡ d → Within (if b && d then Order.Cell address count else Order.Malformed) room
-    by true true e f = (leb-true (address + count) 16384 f, leb-true count room e)
-    by true false e f = tt
-    by false d e f = tt
+    by : (t : Target) (b d : Bool) → leb count room ≡ b → leb (address + count) (sizeOf t) ≡ d → Within (if b && d then setting t address count else Order.Malformed) room
+    by Target.Cells true true e f = (leb-true (address + count) 16384 f, leb-true count room e)
+    by Target.OneTime true true e f = (leb-true (address + count) 256 f, leb-true count room e)
+    by t true false e f = tt
+    by t false d e f = tt
 
 pub order-within : (form : Form) (room : ℕ) → Within (orderOf form room) room
 unfolding orderOf
@@ -38,6 +40,8 @@ order-within (Form.Addresses address) room = tt
 order-within (Form.Writes address word) room = tt
 order-within (Form.Waits microseconds) room = tt
 order-within (Form.Cuts count) room = cut-within count room
-order-within (Form.Sets address count) room = cell-within address count room
+order-within (Form.Starts first) room = tt
+order-within (Form.Ranges first count) room = tt
+order-within (Form.Sets target address count) room = set-within target address count room
 order-within Form.Freshens room = tt
 order-within Form.Wrong room = tt

@@ -4,14 +4,23 @@ use mathlib.Core.Bool.{_&&_}
 use lib.Dec.{leb, ltb}
 use Rattle.language.specs.Choice.{if_then_else_}
 use Rattle.language.specs.declared.Order.{Order}
+use Rattle.forms.specs.declared.Target.{Target}
 use Rattle.forms.specs.declared.Form.{Form}
 
 unfoldable pub cutOf : (count room : ℕ) → Order
 cutOf count room = if ltb room count then Order.Cut room else Order.Cut count
 
-unfoldable pub cellOf : (address count room : ℕ) → Order
-cellOf address count room =
-    if leb count room && leb (address + count) 16384 then Order.Cell address count else Order.Malformed
+abbrev pub sizeOf : Target → ℕ
+sizeOf Target.Cells = 16384
+sizeOf Target.OneTime = 256
+
+abbrev pub setting : Target → (address count : ℕ) → Order
+setting Target.Cells = Order.Cell
+setting Target.OneTime = Order.Otp
+
+unfoldable pub setOf : Target → (address count room : ℕ) → Order
+setOf target address count room =
+    if leb count room && leb (address + count) (sizeOf target) then setting target address count else Order.Malformed
 
 -- what the line asks for
 unfoldable pub orderOf : Form → (room : ℕ) → Order
@@ -23,6 +32,8 @@ orderOf (Form.Addresses address) room = Order.Malformed
 orderOf (Form.Writes address word) room = Order.Write address word
 orderOf (Form.Waits microseconds) room = Order.Wait microseconds
 orderOf (Form.Cuts count) room = cutOf count room
-orderOf (Form.Sets address count) room = cellOf address count room
+orderOf (Form.Starts first) room = Order.Malformed
+orderOf (Form.Ranges first count) room = Order.Range first count
+orderOf (Form.Sets target address count) room = setOf target address count room
 orderOf Form.Freshens room = Order.Fresh
 orderOf Form.Wrong room = Order.Malformed

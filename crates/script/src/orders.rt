@@ -1,7 +1,8 @@
 // What a line asks for that ends.
 ghost use mathlib.Core.Path.{_≡_};
-ghost use Rattle.script.specs.Orders.{orderOf, cutOf, cellOf};
+ghost use Rattle.script.specs.Orders.{orderOf, cutOf, setOf, sizeOf};
 use forms::Form;
+use forms::Target;
 use language::Order;
 
 pub fn order_of(form: Form, room: usize) -> Order
@@ -16,7 +17,9 @@ pub fn order_of(form: Form, room: usize) -> Order
         Form::Writes(address, word) => Order::Write(address as usize, word),
         Form::Waits(microseconds) => Order::Wait(microseconds),
         Form::Cuts(count) => cut(count, room),
-        Form::Sets(address, count) => cell(address, count, room),
+        Form::Starts(_) => Order::Malformed,
+        Form::Ranges(first, count) => Order::Range(first as usize, count as usize),
+        Form::Sets(target, address, count) => set(target, address, count, room),
         Form::Freshens => Order::Fresh,
         Form::Wrong => Order::Malformed,
     }
@@ -32,18 +35,32 @@ fn cut(count: usize, room: usize) -> Order
     Order::Cut(count)
 }
 
-// "The emulator sets its own cells from A on": there are 16384, and none of the words was dropped.
-fn cell(address: u64, count: usize, room: usize) -> Order
-    ensures { λ r. ⌜ r ≡ cellOf address count room ⌝ }
+// All of the words have somewhere to go, and none was dropped.
+fn set(target: Target, address: u64, count: usize, room: usize) -> Order
+    ensures { λ r. ⌜ r ≡ setOf target address count room ⌝ }
 {
     if room < count {
         return Order::Malformed;
     }
-    if 16384 < address {
+    let size = size_of(target);
+    if size < address {
         return Order::Malformed;
     }
-    if ((16384 - address) as usize) < count {
+    if ((size - address) as usize) < count {
         return Order::Malformed;
     }
-    Order::Cell(address as usize, count)
+    match target {
+        Target::Cells => Order::Cell(address as usize, count),
+        Target::OneTime => Order::Otp(address as usize, count),
+    }
+}
+
+// "The emulator sets its own cells from A on": there are 16384, and 256 one-time words.
+fn size_of(target: Target) -> u64
+    ensures { λ r. ⌜ r ≡ sizeOf target ⌝ }
+{
+    match target {
+        Target::Cells => 16384,
+        Target::OneTime => 256,
+    }
 }

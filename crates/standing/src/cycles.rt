@@ -1,35 +1,38 @@
 // Which cycles of a command may be the last one taken, and which readings may be on.
 ghost use mathlib.Core.Path.{_≡_};
-ghost use Rattle.plain.specs.Sound.{cycleInRange, readingInRange, cycleInSuspension};
+ghost use Rattle.plain.specs.Sound.{cycleUnsuspended, readingSound, cycleInSuspension};
 use geometry::Part;
 use plain::Cycle;
 use plain::Reading;
+use plain::Suspension;
 
-// "block numbers are in range": of 68H's block,
-pub fn cycle_in_range(part: Part, cycle: Cycle) -> bool
-    ensures { λ r. ⌜ r ≡ cycleInRange part cycle ⌝ }
+// "block numbers are in range": of 68H's block. Past 80H none is half entered in the one-time block, at the lock's address only there.
+pub fn cycle_unsuspended(part: Part, entered: bool, cycle: Cycle) -> bool
+    ensures { λ r. ⌜ r ≡ cycleUnsuspended part entered cycle ⌝ }
 {
     match cycle {
         Cycle::Unlock => true,
         Cycle::Unlocked => true,
         Cycle::ProgramData => true,
-        Cycle::EraseSetup => true,
-        Cycle::EraseUnlock => true,
-        Cycle::EraseUnlocked => true,
+        Cycle::EraseSetup => !entered,
+        Cycle::EraseUnlock => !entered,
+        Cycle::EraseUnlocked => !entered,
         Cycle::DybData => true,
         Cycle::PpbSetup => true,
         Cycle::PpbSetting(block) => block < part.blocks(),
         Cycle::PpbClearing => true,
+        Cycle::OtpLocking => entered,
     }
 }
 
-// and of the bank of identity reading.
-pub fn reading_in_range(part: Part, reading: Reading) -> bool
-    ensures { λ r. ⌜ r ≡ readingInRange part reading ⌝ }
+// So is the bank of identity reading. The status of the customer's lock is read in the one-time block alone.
+pub fn reading_sound(part: Part, suspension: Suspension, reading: Reading) -> bool
+    ensures { λ r. ⌜ r ≡ readingSound part suspension reading ⌝ }
 {
     match reading {
         Reading::Identity(bank) => bank < part.banks(),
         Reading::Dybs => true,
+        Reading::OtpLock => operations::is_entered(suspension),
     }
 }
 
@@ -48,5 +51,6 @@ pub fn cycle_in_suspension(programs: bool, cycle: Cycle) -> bool
         Cycle::PpbSetup => false,
         Cycle::PpbSetting(_) => false,
         Cycle::PpbClearing => false,
+        Cycle::OtpLocking => false,
     }
 }

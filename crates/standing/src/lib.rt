@@ -1,4 +1,4 @@
-// May the command register stand as it does beside what runs or is suspended?
+// May the command register stand as it does beside what runs, is suspended or is entered?
 ghost use mathlib.Core.Path.{_≡_};
 ghost use Rattle.plain.specs.Sound.{cycleSound, stillCommand, isGround, isStill, commandSound};
 
@@ -51,7 +51,7 @@ fn still_command(part: Part, suspension: Suspension, command: Command) -> bool
     match command {
         Command::Ground => true,
         Command::Entering(cycle) => cycle_sound(part, suspension, cycle),
-        Command::Reads(reading) => cycles::reading_in_range(part, reading),
+        Command::Reads(reading) => cycles::reading_sound(part, suspension, reading),
     }
 }
 
@@ -59,8 +59,9 @@ fn cycle_sound(part: Part, suspension: Suspension, cycle: Cycle) -> bool
     ensures { λ r. ⌜ r ≡ cycleSound part suspension cycle ⌝ }
 {
     match suspension {
-        Suspension::Unsuspended => cycles::cycle_in_range(part, cycle),
+        Suspension::Unsuspended => cycles::cycle_unsuspended(part, false, cycle),
         Suspension::OfProgram(_) => cycles::cycle_in_suspension(false, cycle),
         Suspension::OfErase(_) => cycles::cycle_in_suspension(true, cycle),
+        Suspension::Entered => cycles::cycle_unsuspended(part, true, cycle),
     }
 }

@@ -22,10 +22,11 @@ pub fn keeps_out(part: Part, suspension: Suspension, written: Written) -> bool
             let list = erase.list;
             list.has(block_written(part, written))
         }
+        Suspension::Entered => false,
     }
 }
 
-// "a program works inside a suspended erase"
+// "a program works inside a suspended erase"; so it does in the one-time block
 pub fn begins(suspension: Suspension, program: Program) -> Operation
     ensures { λ r. ⌜ r ≡ begins suspension program ⌝ }
 {
@@ -36,6 +37,7 @@ pub fn begins(suspension: Suspension, program: Program) -> Operation
             erase: erase,
             inside: Inside::Runs(program),
         }),
+        Suspension::Entered => Operation::InOneTime(Inside::Runs(program)),
     }
 }
 

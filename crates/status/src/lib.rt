@@ -64,6 +64,7 @@ pub fn polled(part: Part, operation: Operation, address: usize) -> Operation
             })
         }
         Operation::ChipErasing(erase) => Operation::ChipErasing(erase_polled(part, erase, address)),
+        Operation::InOneTime(inside) => Operation::InOneTime(inside_polled(inside)),
     }
 }
 

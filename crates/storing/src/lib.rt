@@ -42,6 +42,7 @@ pub fn put_operation(words: &mut [u64], operation: Operation)
     put_program(words, told.program);
     words[layout::OPERATION_AT] = told.number;
     words[layout::RECOVERY_AT] = told.recovery;
+    words[layout::ENTERED_AT] = told.entered as u64;
 }
 
 fn put_erase(words: &mut [u64], erase: Erase)
@@ -88,6 +89,7 @@ pub fn put_bits(words: &mut [u64], bits: Protection)
     put_blocks(words, layout::DYB_AT, bits.dyb);
     put_blocks(words, layout::PPB_AT, bits.ppb);
     words[layout::LOCK_AT] = bits.lock as u64;
+    words[layout::SEALED_AT] = bits.sealed as u64;
 }
 
 // A set of blocks, in five words.

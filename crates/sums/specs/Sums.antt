@@ -1,4 +1,4 @@
--- The sums over the cells that the `end` line tells.
+-- The two sums over words that the `end` line and the line of a range tell: of the cells, the one-time words, or the range.
 use Prim.Native.Nat.{ℕ, _+_, _%_}
 use mathlib.Core.List.{List, [], _∷_}
 use Rattle.sums.specs.declared.Sums.{Sums}

@@ -1,4 +1,4 @@
-// The sums over the cells that the `end` line tells.
+// The two sums over words that the `end` line and the line of a range tell: of the cells, the one-time words, or the range.
 ghost use mathlib.Core.Path.{_≡_};
 ghost use Prim.Native.Nat.{_<_};
 ghost use Rattle.sums.specs.Sums.{withCell, sumsOf};

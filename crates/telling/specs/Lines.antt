@@ -1,6 +1,7 @@
 -- The lines of answers, as bytes (docs/REPLAY.md). `line` is the number of the script's line.
 use Prim.Native.Nat.{ℕ}
 use mathlib.Core.List.{List, _++_}
+use Rattle.plain.specs.declared.Array.{Array}
 use Rattle.plain.specs.declared.Refusal.{Refusal}
 use Rattle.plain.specs.Refusals.{number}
 use Rattle.refusals.specs.Names.{name}
@@ -20,12 +21,30 @@ unfoldable pub blockLine : (line block first last : ℕ) → List ℕ
 blockLine line block first last =
     decimal line ++ ascii " block" ++ item (decimal block) ++ item (decimal first) ++ item (decimal last) ++ ascii "\n"
 
--- "`46 word 3001 FFFF FF55` (address, before, after)"
-unfoldable pub wordLine : (line address before after : ℕ) → List ℕ
-wordLine line address before after =
-    decimal line ++ ascii " word" ++ item (decimal address) ++ item (hexadecimal before) ++ item (hexadecimal after) ++ ascii "\n"
+-- what an exposed word is called, and what the array of a range
+abbrev pub wordName : Array → List ℕ
+wordName Array.Main = ascii "word"
+wordName Array.OneTime = ascii "otp"
 
--- "`end CLOCK CHARGE S1 S2`"
-unfoldable pub endLine : (clock charge first second : ℕ) → List ℕ
-endLine clock charge first second =
-    ascii "end" ++ item (decimal clock) ++ item (decimal charge) ++ item (decimal first) ++ item (decimal second) ++ ascii "\n"
+abbrev pub arrayName : Array → List ℕ
+arrayName Array.Main = ascii "main"
+arrayName Array.OneTime = ascii "otp"
+
+-- "`46 word 3001 FFFF FF55` or `49 otp 129 FFFF FF0F` (address, before, after)"
+unfoldable pub wordLine : (line : ℕ) → Array → (address before after : ℕ) → List ℕ
+wordLine line array address before after =
+    decimal line ++ item (wordName array) ++ item (decimal address) ++ item (hexadecimal before) ++ item (hexadecimal after) ++ ascii "\n"
+
+-- two sums, S1 and S2 or O1 and O2
+abbrev pub twoSums : (first second : ℕ) → List ℕ
+twoSums first second = item (decimal first) ++ item (decimal second)
+
+-- "the array that its words are of, first address, number of words, and two sums over them"
+unfoldable pub rangeLine : (line : ℕ) → Array → (first count s1 s2 : ℕ) → List ℕ
+rangeLine line array first count s1 s2 =
+    decimal line ++ item (arrayName array) ++ item (decimal first) ++ item (decimal count) ++ twoSums s1 s2 ++ ascii "\n"
+
+-- "`end CLOCK CHARGE S1 S2 O1 O2`"
+unfoldable pub endLine : (clock charge s1 s2 o1 o2 : ℕ) → List ℕ
+endLine clock charge s1 s2 o1 o2 =
+    ascii "end" ++ item (decimal clock) ++ item (decimal charge) ++ twoSums s1 s2 ++ twoSums o1 o2 ++ ascii "\n"

@@ -2,7 +2,9 @@
 ghost use Prim.Native.Nat.{_+_, _≤_};
 ghost use lib.ListN.{length};
 ghost use Rattle.printing.specs.Put.{Put};
-ghost use Rattle.telling.specs.Lines.{eventLine, malformedLine, blockLine, wordLine, endLine};
+ghost use Rattle.printing.specs.Text.{item};
+ghost use Rattle.telling.specs.Lines.{eventLine, malformedLine, blockLine, wordName, wordLine, arrayName, twoSums, rangeLine, endLine};
+use plain::Array;
 use plain::Refusal;
 
 pub fn event(
@@ -49,29 +51,103 @@ pub fn block(out: &mut [u8], at: usize, line: u64, block: usize, first: usize, l
     printing::bytes(out, end, b"\n")
 }
 
-pub fn word(out: &mut [u8], at: usize, line: u64, address: usize, before: u16, after: u16) -> usize
+// A word that a cut exposed.
+pub fn word(
+    out: &mut [u8],
+    at: usize,
+    line: u64,
+    array: Array,
+    address: usize,
+    before: u16,
+    after: u16,
+) -> usize
     requires { ⌜ at + 57 ≤ length (now out) ⌝ }
-    ensures { λ r. ⌜ Put (now (out .entry)) at (now (out .exit)) r (wordLine line address before after) ⌝ }
+    ensures { λ r. ⌜ Put (now (out .entry)) at (now (out .exit)) r (wordLine line array address before after) ⌝ }
     ensures { λ r. ⌜ r ≤ at + 57 ⌝ }
 {
     let mut end = printing::decimal(out, at, line);
-    end = printing::bytes(out, end, b" word");
+    end = word_name(out, end, array);
     end = printing::number(out, end, address as u64);
     end = printing::word(out, end, before);
     end = printing::word(out, end, after);
     printing::bytes(out, end, b"\n")
 }
 
-// `first` and `second` are the two sums over the cells.
-pub fn end(out: &mut [u8], at: usize, clock: u64, charge: u64, first: u64, second: u64) -> usize
-    requires { ⌜ at + 88 ≤ length (now out) ⌝ }
-    ensures { λ r. ⌜ Put (now (out .entry)) at (now (out .exit)) r (endLine clock charge first second) ⌝ }
-    ensures { λ r. ⌜ r ≤ at + 88 ⌝ }
+// `s1` and `s2` are the two sums over the range's words.
+pub fn range(
+    out: &mut [u8],
+    at: usize,
+    line: u64,
+    array: Array,
+    first: usize,
+    count: usize,
+    s1: u64,
+    s2: u64,
+) -> usize
+    requires { ⌜ at + 110 ≤ length (now out) ⌝ }
+    ensures { λ r. ⌜ Put (now (out .entry)) at (now (out .exit)) r (rangeLine line array first count s1 s2) ⌝ }
+    ensures { λ r. ⌜ r ≤ at + 110 ⌝ }
+{
+    let mut end = printing::decimal(out, at, line);
+    end = array_name(out, end, array);
+    end = printing::number(out, end, first as u64);
+    end = printing::number(out, end, count as u64);
+    end = two_sums(out, end, s1, s2);
+    printing::bytes(out, end, b"\n")
+}
+
+// `s1` and `s2` are the two sums over the cells, `o1` and `o2` those over the one-time words.
+pub fn end(
+    out: &mut [u8],
+    at: usize,
+    clock: u64,
+    charge: u64,
+    s1: u64,
+    s2: u64,
+    o1: u64,
+    o2: u64,
+) -> usize
+    requires { ⌜ at + 130 ≤ length (now out) ⌝ }
+    ensures { λ r. ⌜ Put (now (out .entry)) at (now (out .exit)) r (endLine clock charge s1 s2 o1 o2) ⌝ }
+    ensures { λ r. ⌜ r ≤ at + 130 ⌝ }
 {
     let mut behind = printing::bytes(out, at, b"end");
     behind = printing::number(out, behind, clock);
     behind = printing::number(out, behind, charge);
-    behind = printing::number(out, behind, first);
-    behind = printing::number(out, behind, second);
+    behind = two_sums(out, behind, s1, s2);
+    behind = two_sums(out, behind, o1, o2);
     printing::bytes(out, behind, b"\n")
+}
+
+// A blank, and what an exposed word of the array is called.
+fn word_name(out: &mut [u8], at: usize, array: Array) -> usize
+    requires { ⌜ at + 5 ≤ length (now out) ⌝ }
+    ensures { λ r. ⌜ Put (now (out .entry)) at (now (out .exit)) r (item (wordName array)) ⌝ }
+    ensures { λ r. ⌜ r ≤ at + 5 ⌝ }
+{
+    match array {
+        Array::Main => printing::bytes(out, at, b" word"),
+        Array::OneTime => printing::bytes(out, at, b" otp"),
+    }
+}
+
+// A blank, and what the array is called as that of a range.
+fn array_name(out: &mut [u8], at: usize, array: Array) -> usize
+    requires { ⌜ at + 5 ≤ length (now out) ⌝ }
+    ensures { λ r. ⌜ Put (now (out .entry)) at (now (out .exit)) r (item (arrayName array)) ⌝ }
+    ensures { λ r. ⌜ r ≤ at + 5 ⌝ }
+{
+    match array {
+        Array::Main => printing::bytes(out, at, b" main"),
+        Array::OneTime => printing::bytes(out, at, b" otp"),
+    }
+}
+
+fn two_sums(out: &mut [u8], at: usize, first: u64, second: u64) -> usize
+    requires { ⌜ at + 42 ≤ length (now out) ⌝ }
+    ensures { λ r. ⌜ Put (now (out .entry)) at (now (out .exit)) r (twoSums first second) ⌝ }
+    ensures { λ r. ⌜ r ≤ at + 42 ⌝ }
+{
+    let end = printing::number(out, at, first);
+    printing::number(out, end, second)
 }

@@ -1,17 +1,21 @@
-// Is what runs or is suspended sound? One function for each kind of operation.
+// Is what runs, is suspended or is entered sound? One function for each kind of operation.
 ghost use mathlib.Core.Path.{_≡_};
 ghost use Rattle.plain.specs.declared.Operation.the-variants.{Window, Erasing, Recovering, EraseSuspended, ChipErasing};
-ghost use Rattle.plain.specs.Sound.{timeSound, programSound, insideSound, operationSound};
+ghost use Rattle.plain.specs.Programs.{same};
+ghost use Rattle.plain.specs.Sound.{timeSound, arraySound, programSound, insideSound, enteredSound, operationSound};
 
 mod lists;
 
 use geometry::Part;
+use plain::Array;
 use plain::Erase;
 use plain::Inside;
 use plain::Operation;
 use plain::Program;
 use plain::Recovery;
 use plain::SuspendedErase;
+use plain::Suspension;
+use plain::Written;
 use plain::figures;
 use protection::Protection;
 
@@ -20,13 +24,24 @@ pub fn operation_sound(part: Part, bits: Protection, operation: Operation) -> bo
 {
     match operation {
         Operation::Idle => true,
-        Operation::Programming(program) => program_sound(part, bits, program),
-        Operation::ProgramSuspended(program) => program_sound(part, bits, program),
+        Operation::Programming(program) => program_sound(
+            part,
+            bits,
+            Suspension::Unsuspended,
+            program,
+        ),
+        Operation::ProgramSuspended(program) => program_sound(
+            part,
+            bits,
+            Suspension::Unsuspended,
+            program,
+        ),
         Operation::Window(erase) => window_sound(part, bits, erase),
         Operation::Erasing(erase) => erasing_sound(part, bits, erase),
         Operation::Recovering(recovery) => recovering_sound(part, bits, recovery),
         Operation::EraseSuspended(suspended) => suspended_sound(part, bits, suspended),
         Operation::ChipErasing(erase) => chip_erasing_sound(part, bits, erase),
+        Operation::InOneTime(inside) => entered_sound(part, bits, inside),
     }
 }
 
@@ -40,17 +55,45 @@ fn time_sound(left: u64, full: u64) -> bool
     left <= full
 }
 
-// "addresses .. are in range; .. a program's block is unprotected"
-fn program_sound(part: Part, bits: Protection, program: Program) -> bool
-    ensures { λ r. ⌜ r ≡ programSound part bits program ⌝ }
+// "addresses .. are in range; .. a program's block is unprotected"; "OTPLOCKED, in the place of PROTECTED, in soundness too"
+fn program_sound(part: Part, bits: Protection, suspension: Suspension, program: Program) -> bool
+    ensures { λ r. ⌜ r ≡ programSound part bits suspension program ⌝ }
 {
-    if !programs::lies_in(part, program.writes) {
+    let written = program.writes;
+    if !array_sound(suspension, written) {
+        return false;
+    }
+    if !programs::lies_in(part, written) {
         return false;
     }
     if !time_sound(program.left, figures::program_time(part)) {
         return false;
     }
-    !bits.is_protected(programs::block_written(part, program.writes))
+    !programs::is_barred(part, bits, written)
+}
+
+// A program writes to the array that its address selects: the mode cannot have changed since its data write.
+fn array_sound(suspension: Suspension, written: Written) -> bool
+    ensures { λ r. ⌜ r ≡ arraySound suspension written ⌝ }
+{
+    let address = programs::first_word(written);
+    let array = programs::array_written(written);
+    same(array, operations::selected(suspension, address))
+}
+
+fn same(one: Array, other: Array) -> bool
+    ensures { λ r. ⌜ r ≡ same one other ⌝ }
+{
+    match one {
+        Array::Main => match other {
+            Array::Main => true,
+            Array::OneTime => false,
+        },
+        Array::OneTime => match other {
+            Array::Main => false,
+            Array::OneTime => true,
+        },
+    }
 }
 
 // "in the window it is the lowest; .. its own time left" is held to the window's
@@ -106,12 +149,22 @@ fn inside_sound(part: Part, bits: Protection, erase: Erase, inside: Inside) -> b
     match inside {
         Inside::Nothing => true,
         Inside::Runs(program) => {
-            if !program_sound(part, bits, program) {
+            if !program_sound(part, bits, Suspension::OfErase(erase), program) {
                 return false;
             }
             let list = erase.list;
             !list.has(programs::block_written(part, program.writes))
         }
+    }
+}
+
+// While the one-time block is entered nothing runs but a program.
+fn entered_sound(part: Part, bits: Protection, inside: Inside) -> bool
+    ensures { λ r. ⌜ r ≡ enteredSound part bits inside ⌝ }
+{
+    match inside {
+        Inside::Nothing => true,
+        Inside::Runs(program) => program_sound(part, bits, Suspension::Entered, program),
     }
 }
 

@@ -1,12 +1,13 @@
-// Writes in the erase window (document 01, "Time, charge and the cells").
+// Writes while a block erase runs: in its window (document 01, "Time, charge and the cells"), and past it.
 ghost use mathlib.Core.Path.{_≡_};
 ghost use Prim.Native.Nat.{min};
-ghost use Rattle.plain.specs.Commands.{addBlock, inWindow};
+ghost use Rattle.plain.specs.Commands.{addBlock, inWindow, inErase};
 use geometry::Part;
 use plain::Effect;
 use plain::Erase;
 use plain::Inside;
 use plain::Operation;
+use plain::Recovery;
 use plain::Refusal;
 use plain::SuspendedErase;
 use plain::figures;
@@ -69,4 +70,17 @@ fn lower(x: usize, y: usize) -> usize
         return y;
     }
     x
+}
+
+// "B0H during a running block erase starts 20 µs in which the block makes no progress"; any other write is BUSY.
+pub fn in_erase(part: Part, erase: Erase, word: u16) -> Effect
+    ensures { λ r. ⌜ r ≡ inErase part erase word ⌝ }
+{
+    if word % 256 == 0xb0 {
+        return Effect::Starts(Operation::Recovering(Recovery {
+            erase: erase,
+            left: figures::recovery_time(part),
+        }));
+    }
+    Effect::Stays(Refusal::Busy)
 }

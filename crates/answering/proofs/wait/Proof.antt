@@ -14,7 +14,8 @@ wait-spec =
     (λ c κs. search needs)  -- answered-requires
     (λ c. search needs)  -- same-length
     (λ c. search needs)  -- same-length-2
+    (λ c. search needs)  -- same-length-3
     (λ c.
     let a = c .before .before .answered .ensures in
-    let e = rw (c .before .before .before .before .before .before .before .before .small .ensures) at (c .before .before .before .before .before .before .wait .ensures) in
-    (rw (a .0, e .0), (e .1, (rw (e .0) at (a .1 .0), a .1 .1)))))  -- returns
+    let e = rw (c .before .before .before .before .before .before .before .before .before .before .before .small .ensures) at (c .before .before .before .before .before .before .before .before .wait .ensures) in
+    (rw (a .0, e .0), (e .1 .0, (e .1 .1, (rw (e .0) at (a .1 .0), a .1 .1))))))  -- returns

@@ -21,6 +21,7 @@ number-of-spec =
     (λ c. search needs)  -- enum-told-11
     (λ c. search needs)  -- enum-told-12
     (λ c. search needs)  -- enum-told-13
+    (λ c. search needs)  -- enum-told-14
     (λ c. search needs)  -- returns
     (λ c. search needs)  -- returns-2
     (λ c. search needs)  -- returns-3
@@ -33,4 +34,5 @@ number-of-spec =
     (λ c. search needs)  -- returns-10
     (λ c. search needs)  -- returns-11
     (λ c. search needs)  -- returns-12
-    (λ c. search needs))  -- returns-13
+    (λ c. search needs)  -- returns-13
+    (λ c. search needs))  -- returns-14

@@ -19,5 +19,5 @@ exposed-word-spec =
     (λ c κs. search needs)  -- part-named-requires
     (λ c κs. whole _ _ (is-so _ _ (c .before .before .stands .ensures) (c .before .if2 .left)))  -- device-of-requires
     (λ c κs. search needs)  -- exposed-requires
-    (λ c κs. search needs)  -- place-number-requires
-    (λ c. rw (c .place-number .ensures, c .before .exposed .ensures, c .before .before .before .part-named .ensures, c .before .before .device-of .ensures, is-so _ _ (c .before .before .before .before .before .stands .ensures) (c .before .before .before .before .if2 .left))))  -- returns-3
+    (λ c κs. search needs)  -- spot-number-requires
+    (λ c. rw (c .spot-number .ensures, c .before .exposed .ensures, c .before .before .before .part-named .ensures, c .before .before .device-of .ensures, is-so _ _ (c .before .before .before .before .before .stands .ensures) (c .before .before .before .before .if2 .left))))  -- returns-3

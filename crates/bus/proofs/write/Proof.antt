@@ -14,7 +14,7 @@ write-spec =
     (λ c κs. search needs)  -- number-of-requires
     (λ c. search needs)  -- same-length
     (λ c.
-    let same = write-none _ _ _ _ _ (unsound _ _ (c .before .before .stands .ensures) (c .before .if1 .taken)) in
+    let same = write-none _ _ _ _ _ _ (unsound _ _ (c .before .before .stands .ensures) (c .before .if1 .taken)) in
     (c .number-of .ensures ∙ sym (ap (λ (f : Faced). f .refusal) same), sym (ap (λ (f : Faced). f .image) same)))  -- returns
     (λ c κs. whole _ _ (is-so _ _ (c .before .before .stands .ensures) (c .before .if1 .left)))  -- device-of-requires
     (λ c κs. search needs)  -- part-named-requires
@@ -22,5 +22,5 @@ write-spec =
     (λ c κs. well _ _ (is-so _ _ (c .before .before .before .before .before .before .stands .ensures) (c .before .before .before .before .before .if1 .left)))  -- put-effect-requires
     (λ c. search needs)  -- same-length-2
     (λ c.
-    let same = told _ _ _ (write-some _ _ _ _ _ (is-so _ _ (c .before .before .before .before .before .before .before .before .before .stands .ensures) (c .before .before .before .before .before .before .before .before .if1 .left))) (rw (c .before .before .before .before .before .part-named .ensures, c .before .before .before .before .before .before .device-of .ensures) at (c .before .before .before .before .write .ensures)) in
+    let same = told _ _ _ (write-some _ _ _ _ _ _ (is-so _ _ (c .before .before .before .before .before .before .before .before .before .stands .ensures) (c .before .before .before .before .before .before .before .before .if1 .left))) (rw (c .before .before .before .before .before .part-named .ensures, c .before .before .before .before .before .before .device-of .ensures) at (c .before .before .before .before .write .ensures)) in
     (c .before .before .put-effect .ensures .0 ∙ sym (ap (λ (f : Faced). f .refusal) same), c .before .before .put-effect .ensures .1 ∙ sym (ap (λ (f : Faced). f .image) same))))  -- returns-2

@@ -19,6 +19,6 @@ cut-block-spec =
     let fits = block-fits (start .args .part) (c .before .before .before .before .block .given .0 .0) in
     let enough = rw (c .before .before .before .before .block .given .1) at (start .pre .1) in
     (omega (arith, c .size-of .ensures, c .before .first-of .ensures, fits, start .pre .0), omega (arith, c .size-of .ensures, enough)))  -- litter-requires
-    (λ c. rw (c .enum-told .given .1))  -- returns
+    (λ c otp. rw (c .enum-told .given .1))  -- returns
     (λ c. search needs)  -- same-length
-    (λ c. rw (c .before .before .litter .ensures, c .before .before .before .size-of .ensures, c .before .before .before .before .first-of .ensures, c .before .before .before .before .before .before .before .block .given .1)))  -- returns-2
+    (λ c otp. rw (c .before .before .litter .ensures, c .before .before .before .size-of .ensures, c .before .before .before .before .first-of .ensures, c .before .before .before .before .before .before .before .block .given .1)))  -- returns-2

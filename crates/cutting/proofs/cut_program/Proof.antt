@@ -1,3 +1,4 @@
+use mathlib.Core.Path.{refl}
 use borrow.Author.Needs.{needs}
 use Rattle.plain.specs.Cut.{programDebris, programCut}
 use Rattle.cutting.proofs.cut_program.Statement.{statement}
@@ -11,9 +12,10 @@ cut-program-spec =
     (λ c. search needs)  -- enum-told
     (λ c. search needs)  -- enum-known-program
     (λ c κs.
-    let start = c .before .before .before .before .before .before in
-    let writes = c .before .before .program .given .1 in
+    let start = c .before .before .before .before .before .before .before .before in
+    let writes = c .before .before .before .program .given .1 in
     ((start .pre .0 .0, start .pre .0 .1 .lies _ writes), rw writes at (start .pre .1)))  -- cut-off-requires
-    (λ c. rw (c .enum-told .given .1))  -- returns
+    (λ c. rw (c .enum-told .given .1) (refl, refl))  -- returns
     (λ c. search needs)  -- same-length
-    (λ c. rw (c .before .before .cut-off .ensures, c .before .before .before .before .before .program .given .1)))  -- returns-2
+    (λ c. search needs)  -- same-length-2
+    (λ c. rw (c .before .before .before .before .before .before .before .before .program .given .1) (c .before .before .before .before .cut-off .ensures)))  -- returns-2

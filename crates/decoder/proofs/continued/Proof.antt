@@ -28,6 +28,8 @@ continued-spec =
     (λ c κs. search needs)  -- after-68-requires
     (λ c. search needs)  -- enum-told-9
     (λ c κs. search needs)  -- after-6060-requires
+    (λ c. search needs)  -- enum-told-10
+    (λ c κs. search needs)  -- after-lock-68-requires
     (λ c. rw (c .after-unlock .ensures, c .before .enum-told .given .1))  -- returns
     (λ c. rw (c .after-unlocked .ensures, c .before .enum-told2 .given .1))  -- returns-2
     (λ c. rw (c .after-a0 .ensures, c .before .enum-told3 .given .1))  -- returns-3
@@ -37,4 +39,5 @@ continued-spec =
     (λ c. rw (c .after-48 .ensures, c .before .enum-told7 .given .1))  -- returns-7
     (λ c. rw (c .after-60 .ensures, c .before .enum-told8 .given .1))  -- returns-8
     (λ c. rw (c .after-68 .ensures, c .before .before .cycle .given .1))  -- returns-9
-    (λ c. rw (c .after-6060 .ensures, c .before .enum-told9 .given .1)))  -- returns-10
+    (λ c. rw (c .after-6060 .ensures, c .before .enum-told9 .given .1))  -- returns-10
+    (λ c. rw (c .after-lock-68 .ensures, c .before .enum-told10 .given .1)))  -- returns-11

@@ -15,16 +15,18 @@ admitted-cut-spec =
     (tie.spec
     (λ c κs. search needs)  -- debris-needed-requires
     (λ c.
-    let same = cut-debris _ _ _ _ (c .before .before .before .before .pre) (rw (c .before .debris-needed .ensures) at (c .if1 .taken)) in
+    let same = cut-debris _ _ _ _ (c .before .before .before .before .before .pre) (rw (c .before .debris-needed .ensures) at (c .if1 .taken)) in
     (answers same, leaves same))  -- returns
     (λ c κs.
-    let fit = c .before .before .before .before .before .pre in
+    let fit = c .before .before .before .before .before .before .before .pre in
     record {
       whole = fit .whole;
-      enough = rw (c .before .before .debris-needed .ensures) at (c .before .if1 .left);
+      enough = rw (c .before .before .before .debris-needed .ensures) at (c .before .before .if1 .left);
       inside = begun-lies _ _ _ (sound-operation _ _ (fit .sound) _ refl);
-    })  -- cut-cells-requires
+    })  -- cut-lent-requires
     (λ c. search needs)  -- same-length
+    (λ c. search needs)  -- same-length-2
     (λ c.
-    let same = cut-passes _ _ _ _ (c .before .before .before .before .before .before .before .before .pre) (rw (c .before .before .before .before .before .debris-needed .ensures) at (c .before .before .before .before .if1 .left)) in
-    (answers same, c .before .before .cut-cells .ensures ∙ leaves same)))  -- returns-2
+    let same = cut-passes _ _ _ _ (c .before .before .before .before .before .before .before .before .before .before .before .before .pre) (rw (c .before .before .before .before .before .before .before .before .debris-needed .ensures) at (c .before .before .before .before .before .before .before .if1 .left)) in
+    let cut = c .before .before .before .before .cut-lent .ensures in
+    (answers same, (cut .0 ∙ leaves same .0, cut .1 ∙ leaves same .1))))  -- returns-2

@@ -11,8 +11,8 @@ word-spec =
     tie.close
     (tie.spec
     (λ c. search needs)  -- enum-told
-    (λ c. search needs)  -- enum-known-place
+    (λ c. search needs)  -- enum-known-spot
     (λ c κs. search needs)  -- word-requires
     (λ c. (rw (c .enum-told .given .1) put-none, omega arith))  -- returns
     (λ c. search needs)  -- same-length
-    (λ c. (rw (c .before .before .before .before .before .place .given .1) (c .before .before .word .ensures .0), c .before .before .word .ensures .1)))  -- returns-2
+    (λ c. (rw (c .before .before .before .before .before .spot .given .1) (c .before .before .word .ensures .0), c .before .before .word .ensures .1)))  -- returns-2

@@ -15,4 +15,6 @@ named-spec =
     (λ c. rw (c .before .if1 .left, c .match .keys4))  -- returns-5
     (λ c. rw (c .before .if1 .left, c .match .keys5))  -- returns-6
     (λ c. rw (c .before .if1 .left, c .match .keys6))  -- returns-7
-    (λ c. rw (c .before .if1 .left, ne-eqb _ _ (c .match .rest .0 .0 .0 .0 .0 .1), ne-eqb _ _ (c .match .rest .0 .0 .0 .0 .1), ne-eqb _ _ (c .match .rest .0 .0 .0 .1), ne-eqb _ _ (c .match .rest .0 .0 .1), ne-eqb _ _ (c .match .rest .0 .1), ne-eqb _ _ (c .match .rest .1))))  -- returns-8
+    (λ c. rw (c .before .if1 .left, c .match .keys7))  -- returns-8
+    (λ c. rw (c .before .if1 .left, c .match .keys8))  -- returns-9
+    (λ c. rw (c .before .if1 .left, ne-eqb _ _ (c .match .rest .0 .0 .0 .0 .0 .0 .0 .1), ne-eqb _ _ (c .match .rest .0 .0 .0 .0 .0 .0 .1), ne-eqb _ _ (c .match .rest .0 .0 .0 .0 .0 .1), ne-eqb _ _ (c .match .rest .0 .0 .0 .0 .1), ne-eqb _ _ (c .match .rest .0 .0 .0 .1), ne-eqb _ _ (c .match .rest .0 .0 .1), ne-eqb _ _ (c .match .rest .0 .1), ne-eqb _ _ (c .match .rest .1))))  -- returns-10

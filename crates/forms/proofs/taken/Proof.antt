@@ -26,10 +26,14 @@ taken-spec =
     (λ c κs. search needs)  -- added-requires
     (λ c κs. search needs)  -- cuts-requires
     (λ c. search needs)  -- enum-known-form-4
+    (λ c κs. search needs)  -- number-of-requires-3
+    (λ c κs. search needs)  -- ranged-requires
+    (λ c. search needs)  -- enum-told-6
+    (λ c. search needs)  -- enum-known-form-5
     (λ c κs. search needs)  -- added-requires-2
     (λ c κs. search needs)  -- sets-requires
-    (λ c. search needs)  -- enum-told-6
     (λ c. search needs)  -- enum-told-7
+    (λ c. search needs)  -- enum-told-8
     (λ c. let e = ne-eqb _ _ (c .before .before .before .if1 .left) in let g = c .before .enum-told .given .1 in (rw (e, c .named .ensures, g), rw (e, g)))  -- returns-2
     (λ c. let e = ne-eqb _ _ (c .before .before .if1 .left) in let g = c .enum-told2 .given .1 in (rw (e, g), rw (e, g)))  -- returns-3
     (λ c. let e = ne-eqb _ _ (c .before .before .before .before .before .if1 .left) in let g = c .before .before .before .form .given .1 in (rw (e, c .numbered .ensures, c .before .number-of .ensures, g), rw (e, g)))  -- returns-4
@@ -39,7 +43,9 @@ taken-spec =
     (λ c. let e = ne-eqb _ _ (c .before .before .if1 .left) in let g = c .enum-told5 .given .1 in (rw (e, g), rw (e, g)))  -- returns-8
     (λ c. search needs)  -- same-length
     (λ c. let e = ne-eqb _ _ (c .before .before .before .before .before .before .before .before .if1 .left) in let g = c .before .before .before .before .before .before .form3 .given .1 in (rw (e, c .cuts .ensures, c .before .before .before .added .ensures .0, g), rw (e, c .before .before .before .added .ensures .1, g)))  -- returns-9
-    (λ c. search needs)  -- same-length-2
-    (λ c. let e = ne-eqb _ _ (c .before .before .before .before .before .before .before .before .if1 .left) in let g = c .before .before .before .before .before .before .form4 .given .1 in (rw (e, c .sets .ensures, c .before .before .before .added2 .ensures .0, g), rw (e, c .before .before .before .added2 .ensures .1, g)))  -- returns-10
+    (λ c. let e = ne-eqb _ _ (c .before .before .before .before .before .if1 .left) in let g = c .before .before .before .form4 .given .1 in (rw (e, c .ranged .ensures, c .before .number-of3 .ensures, g), rw (e, g)))  -- returns-10
     (λ c. let e = ne-eqb _ _ (c .before .before .if1 .left) in let g = c .enum-told6 .given .1 in (rw (e, g), rw (e, g)))  -- returns-11
-    (λ c. let e = ne-eqb _ _ (c .before .before .if1 .left) in let g = c .enum-told7 .given .1 in (rw (e, g), rw (e, g))))  -- returns-12
+    (λ c. search needs)  -- same-length-2
+    (λ c. let e = ne-eqb _ _ (c .before .before .before .before .before .before .before .before .if1 .left) in let g = c .before .before .before .before .before .before .form5 .given .1 in (rw (e, c .sets .ensures, c .before .before .before .added2 .ensures .0, g), rw (e, c .before .before .before .added2 .ensures .1, g)))  -- returns-12
+    (λ c. let e = ne-eqb _ _ (c .before .before .if1 .left) in let g = c .enum-told7 .given .1 in (rw (e, g), rw (e, g)))  -- returns-13
+    (λ c. let e = ne-eqb _ _ (c .before .before .if1 .left) in let g = c .enum-told8 .given .1 in (rw (e, g), rw (e, g))))  -- returns-14

@@ -15,9 +15,9 @@ read-spec =
     (λ c κs. search needs)  -- packed-requires
     (λ c. search needs)  -- enum-told
     (λ c κs. search needs)  -- packed-requires-2
-    (λ c. let same = read-address _ _ (c .before .before .before .before .before .before .before .pre) _ (sym (c .before .before .before .before .entry .ensures) ∙ c .before .before .enum-told .given .1) _ (c .before .if1 .taken) in (c .packed2 .ensures ∙ sym (ap (λ (f : Faced). packed f) same), ap (λ (f : Faced). f .image) same))  -- returns
+    (λ c. let same = read-address _ _ (c .before .before .before .before .before .before .before .before .pre) _ _ (sym (c .before .before .before .before .entry .ensures) ∙ c .before .before .enum-told .given .1) _ (c .before .if1 .taken) in (c .packed2 .ensures ∙ sym (ap (λ (f : Faced). packed f) same), ap (λ (f : Faced). f .image) same))  -- returns
     (λ c. search needs)  -- mul-packed
     (λ c. search needs)  -- shared-slice-read-packed
     (λ c κs. search needs)  -- packed-requires-3
-    (λ c. let same = read-barred _ _ _ _ _ (sym (c .before .before .before .before .entry .ensures) ∙ c .before .before .entry2 .given .1) in (c .packed .ensures ∙ sym (ap (λ (f : Faced). packed f) same), ap (λ (f : Faced). f .image) same))  -- returns-2
-    (λ c. let same = read-cell _ _ (c .before .before .before .before .before .before .before .before .pre) _ (sym (c .before .before .before .before .before .entry .ensures) ∙ c .before .before .before .enum-told .given .1) _ (c .before .before .if1 .left) in (c .packed3 .ensures ∙ sym (ap (λ (f : Faced). packed f) same), ap (λ (f : Faced). f .image) same)))  -- returns-3
+    (λ c. let same = read-barred _ _ _ _ _ _ (sym (c .before .before .before .before .entry .ensures) ∙ c .before .before .entry2 .given .1) in (c .packed .ensures ∙ sym (ap (λ (f : Faced). packed f) same), ap (λ (f : Faced). f .image) same))  -- returns-2
+    (λ c. let same = read-cell _ _ (c .before .before .before .before .before .before .before .before .before .pre) _ _ (sym (c .before .before .before .before .before .entry .ensures) ∙ c .before .before .before .enum-told .given .1) _ (c .before .before .if1 .left) in (c .packed3 .ensures ∙ sym (ap (λ (f : Faced). packed f) same), ap (λ (f : Faced). f .image) same)))  -- returns-3

@@ -9,4 +9,5 @@ bits-of-spec =
     (λ c κs. search needs)  -- blocks-at-requires
     (λ c κs. search needs)  -- blocks-at-requires-2
     (λ c. search needs)  -- shared-slice-read-t5
-    (λ c. rw (c .before .blocks-at2 .ensures, c .before .before .blocks-at .ensures)))  -- returns
+    (λ c. search needs)  -- shared-slice-read-t8
+    (λ c. rw (c .before .before .blocks-at2 .ensures, c .before .before .before .blocks-at .ensures)))  -- returns

@@ -12,10 +12,11 @@ device-of-spec =
     (λ c. search needs)  -- shared-slice-read-command-of-2
     (λ c κs. search needs)  -- command-of-requires
     (λ c κs. search needs)  -- erase-of-requires
+    (λ c. search needs)  -- shared-slice-read-entered
     (λ c κs. search needs)  -- program-of-requires
     (λ c. search needs)  -- shared-slice-read-operation-of
     (λ c. search needs)  -- shared-slice-read-operation-of-2
     (λ c κs. search needs)  -- operation-of-requires
     (λ c κs. search needs)  -- meter-of-requires
     (λ c κs. search needs)  -- bits-of-requires
-    (λ c. rw (c .bits-of .ensures, c .before .meter-of .ensures, c .before .before .operation-of .ensures, c .before .before .before .before .before .program-of .ensures, c .before .before .before .before .before .before .erase-of .ensures, c .before .before .before .before .before .before .before .command-of .ensures)))  -- returns
+    (λ c. rw (c .bits-of .ensures, c .before .meter-of .ensures, c .before .before .operation-of .ensures, c .before .before .before .before .before .program-of .ensures, c .before .before .before .before .before .before .before .erase-of .ensures, c .before .before .before .before .before .before .before .before .command-of .ensures)))  -- returns

@@ -18,5 +18,5 @@ is-idle-spec =
     (λ c. rw (holds (c .before .before .before .is-marked .ensures) (c .before .before .if1 .left), ← numbers-first _, fails (c .before .are-unused .ensures) (c .if2 .taken)))  -- returns-2
     (λ c κs. let long = is-marked _ (holds (c .before .before .before .is-marked .ensures) (c .before .before .if1 .left)) .long in (omega arith, omega arith))  -- are-unused-requires-2
     (λ c. rw (holds (c .before .before .before .before .before .is-marked .ensures) (c .before .before .before .before .if1 .left), ← numbers-first _, holds (c .before .before .before .are-unused .ensures) (c .before .before .if2 .left), fails (c .before .are-unused2 .ensures) (c .if3 .taken)))  -- returns-3
-    (λ c. omega (arith, is-marked _ (holds (c .before .before .before .before .before .before .is-marked .ensures) (c .before .before .before .before .before .if1 .left)) .long))  -- shared-slice-read-result
-    (λ c. rw (holds (c .before .before .before .before .before .before .is-marked .ensures) (c .before .before .before .before .before .if1 .left), ← numbers-first _, holds (c .before .before .before .before .are-unused .ensures) (c .before .before .before .if2 .left), holds (c .before .before .are-unused2 .ensures) (c .before .if3 .left))))  -- returns-4
+    (λ c κs. let long = is-marked _ (holds (c .before .before .before .before .before .is-marked .ensures) (c .before .before .before .before .if1 .left)) .long in (omega arith, omega arith))  -- are-unused-requires-3
+    (λ c. rw (holds (c .before .before .before .before .before .before .is-marked .ensures) (c .before .before .before .before .before .if1 .left), ← numbers-first _, holds (c .before .before .before .before .are-unused .ensures) (c .before .before .before .if2 .left), holds (c .before .before .are-unused2 .ensures) (c .before .if3 .left)) (c .are-unused3 .ensures)))  -- returns-4

@@ -18,8 +18,8 @@ is-well-formed-spec =
     (λ c κs. search needs)  -- command-fits-requires
     (λ c. rw (holds (c .before .before .before .before .before .is-marked .ensures) (c .before .before .before .before .if1 .left), fails (c .before .command-fits .ensures) (c .if2 .taken)))  -- returns-2
     (λ c κs. is-marked _ (holds (c .before .before .before .before .before .is-marked .ensures) (c .before .before .before .before .if1 .left)) .long)  -- operation-fits-requires
-    (λ c.
-    rw (holds (c .before .before .before .before .before .before .before .is-marked .ensures) (c .before .before .before .before .before .before .if1 .left), holds (c .before .before .before .command-fits .ensures) (c .before .before .if2 .left), fails (c .before .operation-fits .ensures) (c .if3 .taken)))  -- returns-3
+    (λ c. rw (holds (c .before .before .before .before .before .before .before .is-marked .ensures) (c .before .before .before .before .before .before .if1 .left), holds (c .before .before .before .command-fits .ensures) (c .before .before .if2 .left), fails (c .before .operation-fits .ensures) (c .if3 .taken)))  -- returns-3
     (λ c κs. is-marked _ (holds (c .before .before .before .before .before .before .before .is-marked .ensures) (c .before .before .before .before .before .before .if1 .left)) .long)  -- recovery-fits-requires
-    (λ c.
-    rw (holds (c .before .before .before .before .before .before .before .before .is-marked .ensures) (c .before .before .before .before .before .before .before .if1 .left), holds (c .before .before .before .before .command-fits .ensures) (c .before .before .before .if2 .left), holds (c .before .before .operation-fits .ensures) (c .before .if3 .left)) (c .recovery-fits .ensures)))  -- returns-4
+    (λ c. rw (holds (c .before .before .before .before .before .before .before .before .before .is-marked .ensures) (c .before .before .before .before .before .before .before .before .if1 .left), holds (c .before .before .before .before .before .command-fits .ensures) (c .before .before .before .before .if2 .left), holds (c .before .before .before .operation-fits .ensures) (c .before .before .if3 .left), fails (c .before .recovery-fits .ensures) (c .if4 .taken)))  -- returns-4
+    (λ c κs. is-marked _ (holds (c .before .before .before .before .before .before .before .before .before .is-marked .ensures) (c .before .before .before .before .before .before .before .before .if1 .left)) .long)  -- entered-fits-requires
+    (λ c. rw (holds (c .before .before .before .before .before .before .before .before .before .before .is-marked .ensures) (c .before .before .before .before .before .before .before .before .before .if1 .left), holds (c .before .before .before .before .before .before .command-fits .ensures) (c .before .before .before .before .before .if2 .left), holds (c .before .before .before .before .operation-fits .ensures) (c .before .before .before .if3 .left), holds (c .before .before .recovery-fits .ensures) (c .before .if4 .left)) (c .entered-fits .ensures)))  -- returns-5

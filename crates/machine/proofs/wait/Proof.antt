@@ -16,6 +16,8 @@ wait-spec =
     (λ c κs. search needs)  -- moved-requires
     (λ c κs. search needs)  -- done-requires
     (λ c. search needs)  -- same-length
-    (λ c. (c .refused .ensures ∙ (rw (c .before .before .lapse .given .1) at (c .before .before .before .before .before .before .wait .ensures .0)), c .before .before .before .before .before .before .wait .ensures .1))  -- returns
     (λ c. search needs)  -- same-length-2
-    (λ c. (rw (c .done .ensures, c .before .moved .ensures) (rw (c .before .before .before .lapse2 .given .1) at (c .before .before .before .before .before .before .before .wait .ensures .0)), c .before .before .before .before .before .before .before .wait .ensures .1)))  -- returns-2
+    (λ c. (c .refused .ensures ∙ (rw (c .before .before .lapse .given .1) at (c .before .before .before .before .before .before .before .before .wait .ensures .0)), c .before .before .before .before .before .before .before .before .wait .ensures .1))  -- returns
+    (λ c. search needs)  -- same-length-3
+    (λ c. search needs)  -- same-length-4
+    (λ c. (rw (c .done .ensures, c .before .moved .ensures) (rw (c .before .before .before .lapse2 .given .1) at (c .before .before .before .before .before .before .before .before .before .wait .ensures .0)), c .before .before .before .before .before .before .before .before .before .wait .ensures .1)))  -- returns-2

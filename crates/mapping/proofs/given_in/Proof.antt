@@ -10,5 +10,7 @@ given-in-spec =
     (tie.spec
     (λ c. search needs)  -- enum-known-reading
     (λ c. search needs)  -- enum-told
+    (λ c. search needs)  -- enum-told-2
     (λ c. rw (c .before .reading .given .1))  -- returns
-    (λ c. rw (c .enum-told .given .1)))  -- returns-2
+    (λ c. rw (c .enum-told .given .1))  -- returns-2
+    (λ c. rw (c .enum-told2 .given .1)))  -- returns-3

@@ -13,6 +13,9 @@ rests-in-spec =
     (λ c κs. tt)  -- bank-written-requires
     (λ c. search needs)  -- enum-known-suspension-2
     (λ c κs. tt)  -- bank-of-block-requires
+    (λ c. search needs)  -- enum-told-2
+    (λ c κs. tt)  -- bank-of-requires
     (λ c. rw (c .enum-told .given .1))  -- returns
     (λ c. rw (c .bank-written .ensures, c .before .before .before .suspension .given .1))  -- returns-2
-    (λ c. rw (c .bank-of-block .ensures, c .before .before .suspension2 .given .1)))  -- returns-3
+    (λ c. rw (c .bank-of-block .ensures, c .before .before .suspension2 .given .1))  -- returns-3
+    (λ c. rw (c .bank-of .ensures, c .before .enum-told2 .given .1)))  -- returns-4

@@ -8,8 +8,9 @@ end-program-spec =
     tie.close
     (tie.spec
     (λ c κs. search needs)  -- finish-requires
-    (λ c κs. room-first _ _ _ _ (c .before .before .before .before .before .before .pre .1 .1) (c .before .before .before .before .before .before .pre .0))  -- ran-requires
+    (λ c κs. room-first _ _ _ _ (c .before .before .before .before .before .before .before .before .before .before .pre .1 .1) (c .before .before .before .before .before .before .before .before .before .before .pre .0))  -- ran-requires
     (λ c. search needs)  -- sub-stood-by
-    (λ c κs. rw (c .ran .ensures) (room-ran _ _ _ _ (c .before .before .before .before .before .before .before .pre .1 .1) (c .before .before .before .before .before .before .before .pre .0)))  -- stood-by-requires
+    (λ c κs. rw (c .ran .ensures) (room-ran _ _ _ _ (c .before .before .before .before .before .before .before .before .before .before .before .pre .1 .1) (c .before .before .before .before .before .before .before .before .before .before .before .pre .0)))  -- stood-by-requires
     (λ c. search needs)  -- same-length
-    (λ c. (rw (c .stood-by .ensures, c .before .ran .ensures), c .before .before .before .before .finish .ensures)))  -- returns
+    (λ c. search needs)  -- same-length-2
+    (λ c. (rw (c .stood-by .ensures, c .before .ran .ensures), c .before .before .before .before .before .before .finish .ensures)))  -- returns

@@ -8,16 +8,18 @@ pub pass-program-spec : {M : Type 1} → statement M
 pass-program-spec =
     tie.close
     (tie.spec
-    (λ c κs. c .before .before .pre .room)  -- ran-requires
+    (λ c κs. c .before .before .before .pre .room)  -- ran-requires
     (λ c. search needs)  -- sub-with-left
     (λ c κs. search needs)  -- with-left-requires
     (λ c.
     let done = program-goes-on _ _ _ _ _ (c .before .before .if1 .taken) in
     (rw (c .with-left .ensures, c .before .ran .ensures) (done .result), done .exit))  -- returns
     (λ c κs.
-    let fit = c .before .before .before .pre in
-    (fit .room, ((fit .whole, alone-facts _ _ _ _ _ fit .in-part), c .before .if1 .left)))  -- end-program-requires
+    let fit = c .before .before .before .before .before .pre in
+    (fit .room, ((fit .whole, alone-facts _ _ _ _ _ fit .in-part), c .before .before .if1 .left)))  -- end-program-requires
     (λ c. search needs)  -- same-length
+    (λ c. search needs)  -- same-length-2
     (λ c.
-    let done = program-ends _ _ _ _ _ (alone-facts _ _ _ _ _ (c .before .before .before .before .before .before .pre) .some-left) (c .before .before .before .before .if1 .left) in
-    (rw (c .before .before .end-program .ensures .0) (done .result), c .before .before .end-program .ensures .1 ∙ done .exit)))  -- returns-2
+    let done = program-ends _ _ _ _ _ (alone-facts _ _ _ _ _ (c .before .before .before .before .before .before .before .before .before .before .pre) .some-left) (c .before .before .before .before .before .before .before .if1 .left) in
+    let end = c .before .before .before .before .end-program .ensures in
+    (rw (end .0) (done .result), (end .1 .0 ∙ done .exit .0, end .1 .1 ∙ done .exit .1))))  -- returns-2

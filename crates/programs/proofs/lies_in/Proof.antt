@@ -8,5 +8,8 @@ unfolding liesIn
 lies-in-spec =
     tie.close
     (tie.spec
+    (λ c. search needs)  -- enum-told
     (λ c κs. search needs)  -- words-requires
-    (λ c. rw (c .before .words .ensures)))  -- returns
+    (λ c. search needs)  -- enum-told-2
+    (λ c. rw (c .before .before .enum-told .given .1, c .before .words .ensures))  -- returns
+    (λ c. rw (c .before .enum-told2 .given .1)))  -- returns-2

@@ -8,5 +8,9 @@ unfolding raises
 raises-spec =
     tie.close
     (tie.spec
+    (λ c. search needs)  -- enum-told
     (λ c κs. search needs)  -- raises-requires
-    (λ c. c .raises .ensures))  -- returns
+    (λ c. search needs)  -- enum-told-2
+    (λ c κs. search needs)  -- raises-requires-2
+    (λ c. rw (c .before .enum-told .given .1) (c .raises .ensures))  -- returns
+    (λ c. rw (c .before .enum-told2 .given .1) (c .raises2 .ensures)))  -- returns-2

@@ -48,6 +48,9 @@ name-spec =
     (λ c. search needs)  -- enum-told-13
     (λ c. search needs)  -- slice-aggregate-bytes-13
     (λ c κs. search needs)  -- bytes-requires-13
+    (λ c. search needs)  -- enum-told-14
+    (λ c. search needs)  -- slice-aggregate-bytes-14
+    (λ c κs. search needs)  -- bytes-requires-14
     (λ c. search needs)  -- same-length
     (λ c. (rw (c .before .before .before .before .before .enum-told .given .1) (c .before .before .bytes .ensures), omega arith))  -- returns
     (λ c. search needs)  -- same-length-2
@@ -73,4 +76,6 @@ name-spec =
     (λ c. search needs)  -- same-length-12
     (λ c. (rw (c .before .before .before .before .before .enum-told12 .given .1) (c .before .before .bytes12 .ensures), omega arith))  -- returns-12
     (λ c. search needs)  -- same-length-13
-    (λ c. (rw (c .before .before .before .before .before .enum-told13 .given .1) (c .before .before .bytes13 .ensures), omega arith)))  -- returns-13
+    (λ c. (rw (c .before .before .before .before .before .enum-told13 .given .1) (c .before .before .bytes13 .ensures), omega arith))  -- returns-13
+    (λ c. search needs)  -- same-length-14
+    (λ c. (rw (c .before .before .before .before .before .enum-told14 .given .1) (c .before .before .bytes14 .ensures), omega arith)))  -- returns-14

@@ -12,7 +12,7 @@ still-command-spec =
     (λ c. search needs)  -- enum-known-command
     (λ c κs. search needs)  -- cycle-sound-requires
     (λ c. search needs)  -- enum-known-command-2
-    (λ c κs. search needs)  -- reading-in-range-requires
+    (λ c κs. search needs)  -- reading-sound-requires
     (λ c. rw (c .enum-told .given .1))  -- returns
     (λ c. rw (c .cycle-sound .ensures, c .before .before .command .given .1))  -- returns-2
-    (λ c. rw (c .reading-in-range .ensures, c .before .before .command2 .given .1)))  -- returns-3
+    (λ c. rw (c .reading-sound .ensures, c .before .before .command2 .given .1)))  -- returns-3

@@ -9,7 +9,8 @@ unfolding after80Unlocked
 after-80-unlocked-spec =
     tie.close
     (tie.spec
-    (λ c. rw (eq-eqb _ _ (c .if1 .taken)))  -- returns
+    (λ c κs. search needs)  -- resets-requires
+    (λ c. rw (c .resets .ensures, eq-eqb _ _ (c .before .if1 .taken)))  -- returns
     (λ c κs. search needs)  -- is-cycle-requires
     (λ c κs. search needs)  -- chip-erase-requires
     (λ c. rw (c .chip-erase .ensures, ne-eqb _ _ (c .before .before .before .if1 .left), ← c .before .before .is-cycle .ensures, c .before .if2 .taken))  -- returns-2

@@ -14,5 +14,7 @@ put-bits-spec =
     (λ c κs. search needs)  -- put-blocks-requires-2
     (λ c. search needs)  -- cast-words
     (λ c. search needs)  -- slice-write-words
-    (λ c. rw length-set (search needs))  -- same-length
-    (λ c. rw (c .before .before .before .put-blocks2 .ensures, c .before .before .before .before .before .before .before .put-blocks .ensures, flag-byte)))  -- returns
+    (λ c. search needs)  -- cast-words-2
+    (λ c. rw length-set (search needs))  -- slice-write-words-2
+    (λ c. rw (length-set, length-set) (search needs))  -- same-length
+    (λ c. rw (c .before .before .before .before .put-blocks2 .ensures, c .before .before .before .before .before .before .before .before .put-blocks .ensures) (simp flag-byte)))  -- returns

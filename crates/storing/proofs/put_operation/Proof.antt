@@ -1,6 +1,7 @@
 use lib.ListN.{length-set}
 use borrow.Author.Needs.{needs}
 use Rattle.layout.specs.Stored.{withOperation}
+use Rattle.storing.proofs.Flags.{flag-byte}
 use Rattle.storing.proofs.put_operation.Statement.{statement}
 use Rattle.storing.proofs.put_operation.Tie as tie
 
@@ -14,5 +15,7 @@ put-operation-spec =
     (λ c κs. search needs)  -- put-program-requires
     (λ c. search needs)  -- slice-write-words
     (λ c. rw length-set (search needs))  -- slice-write-words-2
-    (λ c. rw (length-set, length-set) (search needs))  -- same-length
-    (λ c. rw (c .before .before .put-program .ensures, c .before .before .before .before .before .before .put-erase .ensures, c .before .before .before .before .before .before .before .before .parts-of .ensures)))  -- returns
+    (λ c. search needs)  -- cast-words
+    (λ c. rw (length-set, length-set) (search needs))  -- slice-write-words-3
+    (λ c. rw (length-set, length-set, length-set) (search needs))  -- same-length
+    (λ c. rw (flag-byte, c .before .before .before .put-program .ensures, c .before .before .before .before .before .before .before .put-erase .ensures, c .before .before .before .before .before .before .before .before .before .parts-of .ensures)))  -- returns

@@ -13,9 +13,9 @@ end-spec =
     (λ c κs. omega arith)  -- bytes-requires
     (λ c κs. omega arith)  -- number-requires
     (λ c κs. omega arith)  -- number-requires-2
-    (λ c κs. omega arith)  -- number-requires-3
-    (λ c κs. omega arith)  -- number-requires-4
+    (λ c κs. omega arith)  -- two-sums-requires
+    (λ c κs. omega arith)  -- two-sums-requires-2
     (λ c. omega arith)  -- slice-aggregate-bytes-2
     (λ c κs. omega arith)  -- bytes-requires-2
     (λ c. omega arith)  -- same-length
-    (λ c. (put-then (put-then (put-then (put-then (put-then (c .before .before .before .before .before .before .before .before .before .before .before .before .before .before .before .before .before .before .before .before .before .before .before .bytes .ensures) (c .before .before .before .before .before .before .before .before .before .before .before .before .before .before .before .before .before .before .before .number .ensures .0)) (c .before .before .before .before .before .before .before .before .before .before .before .before .before .before .before .number2 .ensures .0)) (c .before .before .before .before .before .before .before .before .before .before .before .number3 .ensures .0)) (c .before .before .before .before .before .before .before .number4 .ensures .0)) (c .before .before .bytes2 .ensures), omega arith)))  -- returns
+    (λ c. (put-then (put-then (put-then (put-then (put-then (c .before .before .before .before .before .before .before .before .before .before .before .before .before .before .before .before .before .before .before .before .before .before .before .bytes .ensures) (c .before .before .before .before .before .before .before .before .before .before .before .before .before .before .before .before .before .before .before .number .ensures .0)) (c .before .before .before .before .before .before .before .before .before .before .before .before .before .before .before .number2 .ensures .0)) (c .before .before .before .before .before .before .before .before .before .before .before .two-sums .ensures .0)) (c .before .before .before .before .before .before .before .two-sums2 .ensures .0)) (c .before .before .bytes2 .ensures), omega arith)))  -- returns

@@ -10,6 +10,7 @@ word-of-spec =
     (tie.spec
     (λ c. search needs)  -- enum-told
     (λ c. search needs)  -- enum-known-program
+    (λ c κs. tt)  -- array-written-requires
     (λ c κs. tt)  -- first-word-requires
     (λ c. rw (c .enum-told .given .1))  -- returns
-    (λ c. rw (c .first-word .ensures, c .before .before .program .given .1)))  -- returns-2
+    (λ c. rw (c .first-word .ensures, c .before .array-written .ensures, c .before .before .before .program .given .1)))  -- returns-2

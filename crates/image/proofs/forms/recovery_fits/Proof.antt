@@ -10,6 +10,6 @@ recovery-fits-spec =
     tie.close
     (tie.spec
     (λ c. search needs)  -- shared-slice-read-if1
-    (λ c. rw (eq-eqb _ _ (c .if1 .taken)))  -- returns
+    (λ c. rw (eq-eqb _ 4 (c .if1 .taken)))  -- returns
     (λ c. search needs)  -- shared-slice-read-result
     (λ c. rw (ne-eqb _ _ (c .before .if1 .left))))  -- returns-2

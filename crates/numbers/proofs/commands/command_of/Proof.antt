@@ -13,4 +13,5 @@ command-of-spec =
     (λ c. rw (c .match .keys1))  -- returns
     (λ c. rw (c .match .keys2))  -- returns-2
     (λ c. rw (c .match .keys3))  -- returns-3
-    (λ c. rw (c .cycle-of .ensures, ne-eqb _ _ (c .before .match .rest .0 .0 .1), ne-eqb _ _ (c .before .match .rest .0 .1), ne-eqb _ _ (c .before .match .rest .1))))  -- returns-4
+    (λ c. rw (c .match .keys4))  -- returns-4
+    (λ c. rw (c .cycle-of .ensures, ne-eqb _ _ (c .before .match .rest .0 .0 .0 .1), ne-eqb _ _ (c .before .match .rest .0 .0 .1), ne-eqb _ _ (c .before .match .rest .0 .1), ne-eqb _ _ (c .before .match .rest .1))))  -- returns-5

@@ -28,6 +28,8 @@ cycle-words-spec =
     (λ c κs. search needs)  -- beside-requires-9
     (λ c. search needs)  -- enum-told-9
     (λ c κs. search needs)  -- beside-requires-10
+    (λ c. search needs)  -- enum-told-10
+    (λ c κs. search needs)  -- beside-requires-11
     (λ c. rw (c .beside .ensures, c .before .enum-told .given .1))  -- returns
     (λ c. rw (c .beside2 .ensures, c .before .enum-told2 .given .1))  -- returns-2
     (λ c. rw (c .beside3 .ensures, c .before .enum-told3 .given .1))  -- returns-3
@@ -37,4 +39,5 @@ cycle-words-spec =
     (λ c. rw (c .beside7 .ensures, c .before .enum-told7 .given .1))  -- returns-7
     (λ c. rw (c .beside8 .ensures, c .before .enum-told8 .given .1))  -- returns-8
     (λ c. rw (c .beside9 .ensures, c .before .before .cycle .given .1))  -- returns-9
-    (λ c. rw (c .beside10 .ensures, c .before .enum-told9 .given .1)))  -- returns-10
+    (λ c. rw (c .beside10 .ensures, c .before .enum-told9 .given .1))  -- returns-10
+    (λ c. rw (c .beside11 .ensures, c .before .enum-told10 .given .1)))  -- returns-11

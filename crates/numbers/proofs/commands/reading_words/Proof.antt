@@ -12,5 +12,8 @@ reading-words-spec =
     (λ c κs. search needs)  -- beside-requires
     (λ c. search needs)  -- enum-told
     (λ c κs. search needs)  -- beside-requires-2
+    (λ c. search needs)  -- enum-told-2
+    (λ c κs. search needs)  -- beside-requires-3
     (λ c. rw (c .beside .ensures, c .before .before .reading .given .1))  -- returns
-    (λ c. rw (c .beside2 .ensures, c .before .enum-told .given .1)))  -- returns-2
+    (λ c. rw (c .beside2 .ensures, c .before .enum-told .given .1))  -- returns-2
+    (λ c. rw (c .beside3 .ensures, c .before .enum-told2 .given .1)))  -- returns-3

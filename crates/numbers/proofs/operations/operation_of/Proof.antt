@@ -1,4 +1,3 @@
-use borrow.Author.Tests.{eq-eqb, ne-eqb}
 use borrow.Author.Needs.{needs}
 use Rattle.layout.specs.Operations.{operationOf}
 use Rattle.numbers.proofs.operations.operation_of.Statement.{statement}
@@ -9,6 +8,7 @@ unfolding operationOf
 operation-of-spec =
     tie.close
     (tie.spec
-    (λ c κs. search needs)  -- operation-numbered-requires
-    (λ c. rw (eq-eqb _ _ (c .before .if1 .taken)) (c .operation-numbered .ensures))  -- returns
-    (λ c. rw (ne-eqb _ _ (c .if1 .left))))  -- returns-2
+    (λ c κs. search needs)  -- inside-numbered-requires
+    (λ c. rw (c .before .if1 .taken, c .inside-numbered .ensures))  -- returns
+    (λ c κs. search needs)  -- operation-outside-requires
+    (λ c. rw (c .before .if1 .left) (c .operation-outside .ensures)))  -- returns-2

@@ -31,6 +31,8 @@ parts-of-spec =
     (λ c. search needs)  -- enum-known-operation-7
     (λ c κs. search needs)  -- no-program-requires-5
     (λ c κs. search needs)  -- parts-requires-6
+    (λ c. search needs)  -- enum-known-operation-8
+    (λ c κs. search needs)  -- entered-parts-requires
     (λ c. rw (c .parts .ensures, c .before .no-program .ensures, c .before .before .no-erase .ensures, c .before .before .before .enum-told .given .1))  -- returns
     (λ c. rw (c .parts2 .ensures, c .before .no-erase2 .ensures, c .before .before .before .operation .given .1))  -- returns-2
     (λ c. rw (c .parts3 .ensures, c .before .no-erase3 .ensures, c .before .before .before .operation2 .given .1))  -- returns-3
@@ -38,4 +40,5 @@ parts-of-spec =
     (λ c. rw (c .parts5 .ensures, c .before .no-program3 .ensures, c .before .before .before .operation4 .given .1))  -- returns-5
     (λ c. rw (c .no-program4 .ensures, c .before .before .before .operation5 .given .1))  -- returns-6
     (λ c. rw (c .suspended-parts .ensures, c .before .before .operation6 .given .1))  -- returns-7
-    (λ c. rw (c .parts6 .ensures, c .before .no-program5 .ensures, c .before .before .before .operation7 .given .1)))  -- returns-8
+    (λ c. rw (c .parts6 .ensures, c .before .no-program5 .ensures, c .before .before .before .operation7 .given .1))  -- returns-8
+    (λ c. rw (c .entered-parts .ensures, c .before .before .operation8 .given .1)))  -- returns-9

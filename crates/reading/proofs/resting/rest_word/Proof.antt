@@ -14,6 +14,8 @@ rest-word-spec =
     (λ c κs. tt)  -- status-word-requires
     (λ c. search needs)  -- enum-known-suspension-2
     (λ c κs. tt)  -- status-word-requires-2
+    (λ c. search needs)  -- enum-told-2
     (λ c. rw (c .enum-told .given .1))  -- returns
     (λ c. rw (c .status-word .ensures, c .before .dq7 .ensures, c .before .before .before .before .suspension .given .1))  -- returns-2
-    (λ c. rw (c .status-word2 .ensures, c .before .before .suspension2 .given .1)))  -- returns-3
+    (λ c. rw (c .status-word2 .ensures, c .before .before .suspension2 .given .1))  -- returns-3
+    (λ c. rw (c .enum-told2 .given .1)))  -- returns-4

@@ -15,6 +15,8 @@ rests-spec =
     (λ c. search needs)  -- enum-known-suspension-2
     (λ c κs. tt)  -- block-of-requires-2
     (λ c κs. tt)  -- has-requires
+    (λ c. search needs)  -- enum-told-2
     (λ c. rw (c .enum-told .given .1))  -- returns
     (λ c. rw (c .block-written .ensures, c .before .block-of .ensures, c .before .before .before .before .suspension .given .1))  -- returns-2
-    (λ c. rw (c .has .ensures, c .before .block-of2 .ensures, c .before .before .before .before .suspension2 .given .1)))  -- returns-3
+    (λ c. rw (c .has .ensures, c .before .block-of2 .ensures, c .before .before .before .before .suspension2 .given .1))  -- returns-3
+    (λ c. rw (c .enum-told2 .given .1)))  -- returns-4

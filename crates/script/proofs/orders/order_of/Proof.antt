@@ -17,10 +17,12 @@ order-of-spec =
     (λ c. search needs)  -- enum-known-form-3
     (λ c. search needs)  -- enum-known-form-4
     (λ c κs. search needs)  -- cut-requires
-    (λ c. search needs)  -- enum-known-form-5
-    (λ c κs. search needs)  -- cell-requires
     (λ c. search needs)  -- enum-told-5
+    (λ c. search needs)  -- enum-known-form-5
+    (λ c. search needs)  -- enum-known-form-6
+    (λ c κs. search needs)  -- set-requires
     (λ c. search needs)  -- enum-told-6
+    (λ c. search needs)  -- enum-told-7
     (λ c. rw (c .enum-told .given .1))  -- returns
     (λ c. rw (c .enum-told2 .given .1))  -- returns-2
     (λ c. rw (c .enum-told3 .given .1))  -- returns-3
@@ -29,6 +31,8 @@ order-of-spec =
     (λ c. rw (c .before .form2 .given .1))  -- returns-6
     (λ c. rw (c .before .form3 .given .1))  -- returns-7
     (λ c. rw (c .cut .ensures, c .before .before .form4 .given .1))  -- returns-8
-    (λ c. rw (c .cell .ensures, c .before .before .form5 .given .1))  -- returns-9
-    (λ c. rw (c .enum-told5 .given .1))  -- returns-10
-    (λ c. rw (c .enum-told6 .given .1)))  -- returns-11
+    (λ c. rw (c .enum-told5 .given .1))  -- returns-9
+    (λ c. rw (c .before .form5 .given .1))  -- returns-10
+    (λ c. rw (c .set .ensures, c .before .before .form6 .given .1))  -- returns-11
+    (λ c. rw (c .enum-told6 .given .1))  -- returns-12
+    (λ c. rw (c .enum-told7 .given .1)))  -- returns-13

@@ -18,6 +18,7 @@ cycle-in-suspension-spec =
     (λ c. search needs)  -- enum-told-8
     (λ c. search needs)  -- enum-told-9
     (λ c. search needs)  -- enum-told-10
+    (λ c. search needs)  -- enum-told-11
     (λ c. rw (c .enum-told .given .1))  -- returns
     (λ c. rw (c .enum-told2 .given .1))  -- returns-2
     (λ c. rw (c .enum-told3 .given .1))  -- returns-3
@@ -27,4 +28,5 @@ cycle-in-suspension-spec =
     (λ c. rw (c .enum-told7 .given .1))  -- returns-7
     (λ c. rw (c .enum-told8 .given .1))  -- returns-8
     (λ c. rw (c .enum-told9 .given .1))  -- returns-9
-    (λ c. rw (c .enum-told10 .given .1)))  -- returns-10
+    (λ c. rw (c .enum-told10 .given .1))  -- returns-10
+    (λ c. rw (c .enum-told11 .given .1)))  -- returns-11

@@ -13,6 +13,8 @@ keeps-out-spec =
     (λ c. search needs)  -- enum-known-suspension
     (λ c κs. search needs)  -- block-written-requires
     (λ c κs. search needs)  -- has-requires
+    (λ c. search needs)  -- enum-told-3
     (λ c. rw (c .enum-told .given .1))  -- returns
     (λ c. rw (c .enum-told2 .given .1))  -- returns-2
-    (λ c. rw (c .has .ensures, c .before .block-written .ensures, c .before .before .before .before .suspension .given .1)))  -- returns-3
+    (λ c. rw (c .has .ensures, c .before .block-written .ensures, c .before .before .before .before .suspension .given .1))  -- returns-3
+    (λ c. rw (c .enum-told3 .given .1)))  -- returns-4
