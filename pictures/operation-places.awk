@@ -3,7 +3,7 @@ function places() {
     place("ChipErasing", 380, 150); place("Idle", 380, 360); place("Programming", 20, 360); place("ProgramSuspended", 20, 560)
     place("Window", 740, 360); place("Erasing", 1080, 360); place("Recovering", 1095, 465)
     place("EraseSuspended Nothing", 910, 560); place("EraseSuspended Runs", 480, 560)
-    place("InOneTime Nothing", 300, 690); place("InOneTime Runs", 700, 690)
+    place("InOneTime", 300, 690); place("OneTimeProgramming", 700, 690)
 }
 
 function place(state, x, y) { place_x[state] = x; place_y[state] = y }
@@ -27,11 +27,11 @@ function routes() {
     routed("ChipErasing>Idle", "M510 210L510 355", 518, 290, "")
     routed("ChipErasing>ChipErasing", "M570 165C630 150 630 210 575 195", 626, 184, "")
     routed("ProgramSuspended>Programming", "M115 560L115 425", 123, 495, "")
-    routed("Idle>InOneTime Nothing", "M400 420L400 685", 392, 520, "end")
-    routed("InOneTime Nothing>Idle", "M450 690L450 425", 458, 520, "")
-    routed("InOneTime Nothing>InOneTime Nothing", "M300 705C240 690 240 750 295 735", 250, 724, "end")
-    routed("InOneTime Nothing>InOneTime Runs", "M490 705L695 705", 592, 698, "middle")
-    routed("InOneTime Runs>InOneTime Nothing", "M700 735L495 735", 592, 752, "middle")
+    routed("Idle>InOneTime", "M400 420L400 685", 392, 520, "end")
+    routed("InOneTime>Idle", "M450 690L450 425", 458, 520, "")
+    routed("InOneTime>InOneTime", "M300 705C240 690 240 750 295 735", 250, 724, "end")
+    routed("InOneTime>OneTimeProgramming", "M490 705L695 705", 592, 698, "middle")
+    routed("OneTimeProgramming>InOneTime", "M700 735L495 735", 592, 752, "middle")
 }
 
 function routed(key, d, x, y, anchor) {

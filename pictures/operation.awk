@@ -1,6 +1,5 @@
-# The states of an operation: the declared variants (a suspended erase and the one-time block by what is inside), what a microsecond
-# does by the clauses of Time.antt, and what writes start by those of Commands.antt. An arrow that has no place, or has lost its
-# clause, is an error.
+# The states of an operation: the declared variants (a suspended erase by what is inside it), what a microsecond does by the clauses
+# of Time.antt, and what writes start by those of Commands.antt. An arrow that has no place, or has lost its clause, is an error.
 function arrow(from, to, cause,    key) {
     key = from ">" to
     if (key in cause_of) cause = cause_of[key] ", or " cause
@@ -12,7 +11,7 @@ function arrow(from, to, cause,    key) {
 
 function read_time(    i, p, from) {
     time_file = "crates/plain/specs/Time.antt"
-    read_clauses(time_file, "operationTick"); read_clauses(time_file, "insideTick"); read_clauses(time_file, "resting")
+    read_clauses(time_file, "operationTick"); read_clauses(time_file, "insideTick")
     rests_on(time_file, "if ltb (firstFrom (e .list) (suc (e .hand))) (blockCount p)")
     rests_on(time_file, "else Idle")
     for (i = 1; i <= clauses["operationTick"]; i++) if (right["operationTick", i] ~ /^insideTick /) {
@@ -22,22 +21,16 @@ function read_time(    i, p, from) {
     for (i = 1; i <= clauses["operationTick"]; i++) {
         parts_of(left["operationTick", i], "", p)
         from = first_word(p[3])
-        if (from in has_inside) inside_ticks(from, right["operationTick", i])
+        if (from in has_inside) inside_ticks(from)
         else ticks(from, right["operationTick", i])
     }
 }
 
-# `insideTick AROUND INSIDE`: what time does inside, and around it the state stays.
-function inside_ticks(from, s,    i, p, around) {
-    parts_of(s, "", p)
-    around = first_word(p[2])
-    if (around == "resting") around = first_word(right["resting", 1])
-    if (around != from) die("what time does to " from " leads to " around)
+# What time does inside; around it the state stays.
+function inside_ticks(from,    i, p) {
     for (i = 1; i <= clauses["insideTick"]; i++) {
         parts_of(left["insideTick", i], "", p)
-        s = right["insideTick", i]
-        gsub(/around/, around, s)
-        ticks(from " " first_word(p[3]), s)
+        ticks(from " " first_word(p[3]), right["insideTick", i])
     }
 }
 
@@ -134,7 +127,7 @@ function read_writes(    c) {
 }
 
 function erase_writes(    c) {
-    c = "written p bits (EraseSuspended s) c l a w = unlessRuns (s .inside) (entered p bits (OfErase (s .erase)) c l a w)"
+    c = "written p bits (EraseSuspended s) c l a w = inSuspendedErase (s .inside) (entered p bits (OfErase (s .erase)) c l a w)"
     wrote_arrow("EraseSuspended Nothing", "Erasing", "30H", "resumes (OfErase e)", c)
     wrote_arrow("EraseSuspended Nothing", "EraseSuspended Runs", "A0H, then address and data off the list", \
         "begins (OfErase e) q", c)
@@ -149,17 +142,17 @@ function erase_writes(    c) {
 
 # In and out of the one-time block, and the program inside it.
 function one_time_writes(    c) {
-    c = "else if is w 0x88 then unless (isSuspended s) (Starts (InOneTime Nothing))"
+    c = "else if is w 0x88 then unless (isSuspended s) (Starts InOneTime)"
     rests_on(commands, "isSuspended Unsuspended = false")
-    wrote_arrow("Idle", "InOneTime Nothing", "88H", "afterUnlocked p bits s a w", c)
+    wrote_arrow("Idle", "InOneTime", "88H", "afterUnlocked p bits s a w", c)
     rests_on(commands, "isSuspended Entered = false")
-    wrote_arrow("InOneTime Nothing", "InOneTime Nothing", "88H again", "afterUnlocked p bits s a w", c)
-    c = "written p bits (InOneTime i) c l a w = unlessRuns i (entered p bits Entered c l a w)"
-    wrote_arrow("InOneTime Nothing", "InOneTime Runs", "A0H, then address and data", "begins Entered q", c)
+    wrote_arrow("InOneTime", "InOneTime", "88H again", "afterUnlocked p bits s a w", c)
+    c = "written p bits InOneTime c l a w = entered p bits Entered c l a w"
+    wrote_arrow("InOneTime", "OneTimeProgramming", "A0H, then address and data", "begins Entered q", c)
     rests_on(commands, "exits s Dybs w = false"); rests_on(commands, "exits s OtpLock w = false")
-    wrote_arrow("InOneTime Nothing", "Idle", "90H, then 00H", "afterReading s r w", \
+    wrote_arrow("InOneTime", "Idle", "90H, then 00H", "afterReading s r w", \
         "exits s (Identity bank) w = isEntered s && is w 0x00")
-    wrote_arrow("InOneTime Nothing", "Idle", "F0H", "resets Entered", c)
+    wrote_arrow("InOneTime", "Idle", "F0H", "resets Entered", c)
 }
 
 # ---- what is told of a state: whether writes are BUSY, and what a microsecond draws
@@ -168,15 +161,15 @@ function read_states(    i, p, state) {
     read_clauses(commands, "written"); read_clauses(time_file, "current")
     read_clauses("crates/plain/specs/Operations.antt", "runningOf")
     read_clauses("crates/plain/specs/Operations.antt", "runningInside")
-    rests_on(commands, "unlessRuns (Runs q) effect = Stays Busy")
+    rests_on(commands, "inSuspendedErase (Runs q) effect = Stays Busy")
     rests_on(commands, "inErase p e w = if is w 0xB0 then Starts (Recovering (recovery e (recoveryTime p))) else Stays Busy")
     rests_on("crates/plain/specs/Machine.antt", "handsBack o = isEntered (suspensionOf o) && isStill (runningOf o)")
-    told["Erasing"] = "any other write is BUSY"; told["InOneTime Nothing"] = "ranges are handed back"
+    told["Erasing"] = "any other write is BUSY"; told["InOneTime"] = "ranges are handed back"
     for (i = 1; i <= clauses["written"]; i++) {
         parts_of(left["written", i], "", p)
         state = first_word(p[4])
         if (right["written", i] == "Stays Busy") told[state] = "every write is BUSY"
-        if (right["written", i] ~ /^unlessRuns /) told[state " Runs"] = "every write is BUSY"
+        if (right["written", i] ~ /^inSuspendedErase /) told[state " Runs"] = "every write is BUSY"
     }
     for (i = 1; i <= clauses["current"]; i++) {
         parts_of(left["current", i], "", p)

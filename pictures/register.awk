@@ -134,7 +134,7 @@ function goes(state, cause, s,    p) {
 function leaf(state, cause, s,    p) {
     s = bare(s)
     parts_of(s, "", p)
-    if (!(p[1] in outcome) || p[1] == "InOneTime" && s != "InOneTime Nothing") die("the effect `" s "` of Commands.antt has no words here")
+    if (!(p[1] in outcome)) die("the effect `" s "` of Commands.antt has no words here")
     edge(state, cause, "= " outcome[p[1]])
     or_refused[outcome[p[1]]] = also == "" ? refusals_of(p[1]) : also
 }

@@ -35,10 +35,7 @@ fn admitted_read(part: Part, device: Device, cells: &[u16], otp: &[u16], address
     if part.words() <= address {
         return Sight::Refused(Refusal::Address);
     }
-    let command = device.command;
-    let operation = device.operation;
-    let bits = device.bits;
-    Sight::Shown(reading::look(part, bits, command, operation, cells, otp, address))
+    Sight::Shown(reading::look(part, device, cells, otp, address))
 }
 
 // A write alters no cell: their length is judged, and by A0H's data cycle the word that it would program.
@@ -73,8 +70,5 @@ fn admitted_write(
     if part.words() <= address {
         return Effect::Stays(Refusal::Address);
     }
-    let command = device.command;
-    let operation = device.operation;
-    let bits = device.bits;
-    register::written(part, bits, operation, command, cells, otp, address, word)
+    register::written(part, device, cells, otp, address, word)
 }

@@ -36,8 +36,8 @@ pub fn act(
         Order::Read(a) => answering::read(device, cells, otp, a, line, out, at),
         Order::Write(a, w) => answering::write(device, cells, otp, a, w, line, out, at),
         Order::Wait(d) => answering::wait(device, cells, otp, d, line, out, at),
-        Order::Cut(n) => answering::cut(device, cells, otp, &words[..n], line, out, at),
-        Order::Range(a, n) => answering::range(device, cells, otp, a, n, line, out, at),
+        Order::Cut(n) => reporting::cut(device, cells, otp, &words[..n], line, out, at),
+        Order::Range(a, n) => reporting::range(device, cells, otp, a, n, line, out, at),
         Order::Cell(a, n) => {
             cells::litter(cells, a, n, words);
             told(device, at)

@@ -14,7 +14,7 @@ use Rattle.plain.specs.declared.Erase.{Erase}
 use Rattle.plain.specs.declared.Inside.{Inside}
 use Rattle.plain.specs.declared.Inside.the-variants.{Nothing, Runs}
 use Rattle.plain.specs.declared.Operation.{Operation}
-use Rattle.plain.specs.declared.Operation.the-variants.{Idle, Programming, ProgramSuspended, Window, Erasing, Recovering, EraseSuspended, ChipErasing, InOneTime}
+use Rattle.plain.specs.declared.Operation.the-variants.{Idle, Programming, ProgramSuspended, Window, Erasing, Recovering, EraseSuspended, ChipErasing, InOneTime, OneTimeProgramming}
 use Rattle.plain.specs.declared.Running.{Running}
 use Rattle.plain.specs.declared.Running.the-variants.{Still, Programs, Waits, Erases, Recovers, ErasesChip}
 use Rattle.plain.specs.Cut.{debrisNeeded}
@@ -22,7 +22,7 @@ use Rattle.plain.specs.Figures.{programTime, windowTime, eraseTime, recoveryTim
 use Rattle.plain.specs.Operations.{runningOf, runningInside}
 use Rattle.plain.specs.Record.{suspended}
 use Rattle.plain.specs.Sound.{operationSound, sound, isStill}
-use Rattle.plain.proofs.Facts.{sound-operation, programming, window, erasing, recovering, inside-runs, chip-erasing, entered-runs}
+use Rattle.plain.proofs.Facts.{sound-operation, programming, window, erasing, recovering, inside-runs, chip-erasing, one-time-programming}
 use Rattle.plain.proofs.Tools.{both-left, both-right}
 use Rattle.remaining.specs.declared.Change.{Change}
 use Rattle.remaining.specs.Remaining.{toCome, untilEnd, changeOf}
@@ -87,11 +87,6 @@ module _ (p : Part) where
     inside-short e Nothing s = lit< tt
     inside-short e (Runs q) s = omega (arith, inside-runs p bits (suspended e (Runs q)) q s refl .program .most-left, times-short .0)
 
-    entered-short : (i : Inside) → operationSound p bits (InOneTime i) ≡ true → untilEnd p (runningInside i) < none
-    unfolding runningInside untilEnd
-    entered-short Nothing s = lit< tt
-    entered-short (Runs q) s = omega (arith, entered-runs p bits q s .most-left, times-short .0)
-
     end-short : (o : Operation) → operationSound p bits o ≡ true → untilEnd p (runningOf o) < none
     unfolding runningOf untilEnd
     end-short Idle s = lit< tt
@@ -108,7 +103,8 @@ module _ (p : Part) where
     end-short (ChipErasing e) s =
         let few : e .left < 1000000 = omega (arith, chip-erasing p bits e s .most-left, times-short .1 .1 .1 .0) in
         omega (arith, rest-short (e .list) (e .hand) (e .left) (chipTime p) few (times-short .1 .1 .1 .0))
-    end-short (InOneTime i) s = entered-short i s
+    end-short InOneTime s = lit< tt
+    end-short (OneTimeProgramming q) s = omega (arith, one-time-programming p bits q s .most-left, times-short .0)
 
   -- where anything runs the next change has a time
   time-short : (x : Running) → untilEnd p x < none → isStill x ≡ eqb (changeTime (changeOf x)) none

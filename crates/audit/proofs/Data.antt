@@ -13,7 +13,7 @@ use Rattle.plain.specs.declared.Inside.{Inside}
 use Rattle.plain.specs.declared.Inside.the-variants.{Nothing, Runs}
 use Rattle.plain.specs.declared.Recovery.{Recovery}
 use Rattle.plain.specs.declared.Operation.{Operation}
-use Rattle.plain.specs.declared.Operation.the-variants.{Idle, Programming, ProgramSuspended, Window, Erasing, Recovering, EraseSuspended, ChipErasing, InOneTime}
+use Rattle.plain.specs.declared.Operation.the-variants.{Idle, Programming, ProgramSuspended, Window, Erasing, Recovering, EraseSuspended, ChipErasing, InOneTime, OneTimeProgramming}
 use Rattle.plain.specs.declared.Effect.the-variants.{Starts}
 use Rattle.plain.specs.declared.Device.{Device}
 use Rattle.plain.specs.Events.{Event, read, write, wait, cut, range}
@@ -29,7 +29,7 @@ use Rattle.history.proofs.Fine.{Fine, starts}
 use Rattle.history.proofs.Kept.{step-sound}
 use Rattle.history.proofs.KeptOperation.{step-keeps}
 use Rattle.layout.specs.declared.OperationParts.{OperationParts}
-use Rattle.layout.specs.Operations.{suspendedParts, enteredParts, operationParts, operationOf}
+use Rattle.layout.specs.Operations.{suspendedParts, operationParts, operationOf}
 use Rattle.layout.specs.Image.{deviceOf, partsOf}
 use Rattle.layout.specs.Promises.{Selects, Fits}
 use Rattle.layout.proofs.Arrays.{sound-selects, words-select}
@@ -42,11 +42,6 @@ unfolding suspendedParts insideData
 inside-told e Nothing = refl
 inside-told e (Runs q) = refl
 
-entered-told : (i : Inside) → enteredParts i .program .writes .word ≡ insideData i
-unfolding enteredParts insideData
-entered-told Nothing = refl
-entered-told (Runs q) = refl
-
 data-told : (o : Operation) → operationParts o .program .writes .word ≡ dataOf o
 unfolding operationParts dataOf
 data-told Idle = refl
@@ -57,7 +52,8 @@ data-told (Erasing e) = refl
 data-told (Recovering r) = refl
 data-told (EraseSuspended s) = inside-told (s .erase) (s .inside)
 data-told (ChipErasing e) = refl
-data-told (InOneTime i) = entered-told i
+data-told InOneTime = refl
+data-told (OneTimeProgramming q) = refl
 
 time-told : (o : Operation) → ((x : Recovery) → o ≡ Recovering x → 0 < x .left) → 0 < recoveryLeft o
 unfolding recoveryLeft
@@ -69,7 +65,8 @@ time-told (Erasing e) h = lit< tt
 time-told (Recovering r) h = h r refl
 time-told (EraseSuspended s) h = lit< tt
 time-told (ChipErasing e) h = lit< tt
-time-told (InOneTime i) h = lit< tt
+time-told InOneTime h = lit< tt
+time-told (OneTimeProgramming q) h = lit< tt
 
 module _ (r : Device) where
   short-fits : Short (r .operation) → Selects (operationParts (r .operation)) → Fits r

@@ -19,7 +19,7 @@ use Rattle.plain.specs.declared.Erase.{Erase}
 use Rattle.plain.specs.declared.Inside.{Inside}
 use Rattle.plain.specs.declared.Inside.the-variants.{Nothing, Runs}
 use Rattle.plain.specs.declared.Operation.{Operation}
-use Rattle.plain.specs.declared.Operation.the-variants.{Idle, Programming, ProgramSuspended, Window, Erasing, Recovering, EraseSuspended, ChipErasing, InOneTime}
+use Rattle.plain.specs.declared.Operation.the-variants.{Idle, Programming, ProgramSuspended, Window, Erasing, Recovering, EraseSuspended, ChipErasing, InOneTime, OneTimeProgramming}
 use Rattle.plain.specs.declared.Running.the-variants.{Programs, Erases}
 use Rattle.plain.specs.declared.Place.{Place}
 use Rattle.plain.specs.declared.Place.the-variants.{At}
@@ -37,7 +37,7 @@ use Rattle.plain.specs.Sound.{operationSound, sound}
 use Rattle.plain.specs.Time.{Moment, last, lentTick, tick, ticks}
 use Rattle.plain.proofs.BegunSound.{begins, begun-lies}
 use Rattle.plain.proofs.CutCells.{nowhere, no-program, untouched}
-use Rattle.plain.proofs.Facts.{programming, inside-runs, entered-runs, sound-operation}
+use Rattle.plain.proofs.Facts.{programming, inside-runs, one-time-programming, sound-operation}
 use Rattle.plain.proofs.Ladder.{by-ladder}
 use Rattle.plain.proofs.Programs.{finished-at, written-in-block}
 use Rattle.plain.proofs.Quick.{tick-keeps}
@@ -108,8 +108,9 @@ module _ (p : Part) (x : ℕ) where
     tick-same (EraseSuspended s) f h =
         inside-same (s .inside) (λ q e. inside-runs p bits s q f e .program .in-part) (both-left (not (runsIn p (runningInside (s .inside)) (bankOf p x))) _ h)
     tick-same (ChipErasing e) f h = clash h refl
-    tick-same (InOneTime i) f h =
-        inside-same i (λ q e. entered-runs p bits q (rw e at f) .in-part) (both-left (not (runsIn p (runningInside i) (bankOf p x))) _ h)
+    tick-same InOneTime f h = refl
+    tick-same (OneTimeProgramming q) f h =
+        program-same q (one-time-programming p bits q f .in-part) (not-true _ (both-left (not (eqb (bankOf p x) (bankWritten p (q .writes)))) _ h))
 
   ticks-same : (bits : Protection) (c : Command) (n : ℕ) (m : Moment) → operationSound p bits (m .operation) ≡ true
       → Whole p (m .lent) → givesCells p c (m .operation) (bankOf p x) ≡ true → wordAt (ticks p n m .lent) Main x ≡ wordAt (m .lent) Main x
@@ -142,7 +143,8 @@ module _ (p : Part) (x : ℕ) where
   no-word (Recovering w) h d e = no-program e
   no-word (EraseSuspended s) h d e = inside-word (s .inside) (both-left (not (runsIn p (runningInside (s .inside)) (bankOf p x))) _ h) d e
   no-word (ChipErasing w) h d e = no-program e
-  no-word (InOneTime i) h d e = inside-word i (both-left (not (runsIn p (runningInside i) (bankOf p x))) _ h) d e
+  no-word InOneTime h d e = no-program e
+  no-word (OneTimeProgramming q) h d e = program-misses q d e (not-true _ (both-left (not (eqb (bankOf p x) (bankWritten p (q .writes)))) _ h))
 
   not-in-hand : (left full hand : ℕ) → not (eqb (bankOf p x) (bankOfBlock p hand)) ≡ true → (b : ℕ) → ifBegun left full hand ≡ At b → blockOf p x ≡ b → ⊥
   not-in-hand left full hand h b e = in-block b (rw (← begun-hand left full hand b e) (not-true _ h))
@@ -159,7 +161,8 @@ module _ (p : Part) (x : ℕ) where
   no-block (EraseSuspended s) h b e =
       not-in-hand (s .erase .left) (eraseTime p) (s .erase .hand) (both-right (not (runsIn p (runningInside (s .inside)) (bankOf p x))) _ h) b e
   no-block (ChipErasing w) h b e = clash h refl
-  no-block (InOneTime i) h b e = nowhere e
+  no-block InOneTime h b e = nowhere e
+  no-block (OneTimeProgramming q) h b e = nowhere e
 
   -- ---- one event, and a run
 

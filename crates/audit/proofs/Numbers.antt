@@ -8,12 +8,12 @@ use borrow.Author.Tests.{eqb-false}
 use Rattle.plain.specs.declared.Inside.{Inside}
 use Rattle.plain.specs.declared.Inside.the-variants.{Runs}
 use Rattle.plain.specs.declared.Operation.{Operation}
-use Rattle.plain.specs.declared.Operation.the-variants.{Programming, ProgramSuspended, EraseSuspended, InOneTime}
+use Rattle.plain.specs.declared.Operation.the-variants.{Programming, ProgramSuspended, EraseSuspended, InOneTime, OneTimeProgramming}
 use Rattle.plain.specs.Record.{suspended}
 use Rattle.plain.proofs.Lasting.{Lasting}
 use Rattle.plain.proofs.Tools.{by-test}
 use Rattle.layout.specs.declared.OperationParts.{OperationParts}
-use Rattle.layout.specs.Operations.{operationNumbered, operationOutside, insideNumbered, operationOf}
+use Rattle.layout.specs.Operations.{operationNumbered, operationOutside, operationInside, operationOf}
 
 some-of : (n : ℕ) → eqb n 0 ≡ false → 0 < n
 some-of zero h = absurd (eqb-false 0 0 h refl)
@@ -21,11 +21,11 @@ some-of (suc n) h = omega arith
 
 -- those of a program, and else erases, no operation, and the one-time block with nothing in it
 pub by-number : (P : Operation → Type 0) → Lasting P → (o : OperationParts) → P (Programming (o .program)) → (eqb (o .number) 2 ≡ true → P (ProgramSuspended (o .program)))
-    → P (EraseSuspended (suspended (o .erase) (Runs (o .program)))) → P (InOneTime (Runs (o .program))) → P (operationOf o)
-unfolding operationNumbered operationOutside insideNumbered operationOf
+    → P (EraseSuspended (suspended (o .erase) (Runs (o .program)))) → P (OneTimeProgramming (o .program)) → P (operationOf o)
+unfolding operationNumbered operationOutside operationInside operationOf
 by-number P k o runs rests inside entered =
     let is : ℕ → Bool = eqb (o .number) in
-    by-test P (o .entered) (λ _. by-test (λ (i : Inside). P (InOneTime i)) (is 1) (λ _. entered) (λ _. k .entered))
+    by-test P (o .entered) (λ _. by-test P (is 1) (λ _. entered) (λ _. k .entered))
     (λ _. by-test P (eqb (o .recovery) 0)
     (λ _. by-test P (is 1) (λ _. runs)
     (λ _. by-test P (is 2) rests

@@ -5,30 +5,24 @@ use mathlib.Core.Path.{_≡_, refl, ap, sym, _∙_}
 use mathlib.Core.Bool.{Bool, true, false}
 use mathlib.Core.List.{List}
 use native.Mathlib.Omega.{arith}
-use lib.Dec.{ltb, eqb}
+use lib.Dec.{ltb}
 use borrow.Author.Tests.{lt-ltb}
 use Rattle.geometry.specs.declared.Part.{Part}
 use Rattle.protection.specs.Protection.{factoryWords, wordLockedBy}
 use Rattle.plain.specs.declared.Array.the-variants.{OneTime}
 use Rattle.plain.specs.declared.Refusal.the-variants.{Done}
-use Rattle.plain.specs.declared.Program.{Program}
-use Rattle.plain.specs.declared.Erase.{Erase}
-use Rattle.plain.specs.declared.Inside.{Inside}
-use Rattle.plain.specs.declared.Inside.the-variants.{Nothing, Runs}
-use Rattle.plain.specs.declared.Operation.{Operation}
-use Rattle.plain.specs.declared.Operation.the-variants.{Idle, Programming, ProgramSuspended, Window, Erasing, Recovering, EraseSuspended, ChipErasing, InOneTime}
 use Rattle.plain.specs.declared.Device.{Device}
 use Rattle.plain.specs.Events.{Event, cut}
 use Rattle.plain.specs.Lent.{Lent, wordAt}
 use Rattle.plain.specs.Machine.{step}
 use Rattle.plain.specs.OneTime.{inOneTime, WayOut}
-use Rattle.plain.specs.Operations.{suspensionOf, isEntered}
 use Rattle.plain.specs.Refusals.{number}
-use Rattle.plain.proofs.Tools.{by-test, by-cases, clash}
+use Rattle.plain.proofs.Tools.{by-cases, clash}
 use Rattle.history.proofs.OneTime.{locked-never-changes, locks-stay, locked-in-runs, factory-words-stay, cut-leaves-locks, cut-exits, only-these-leave}
-use Rattle.layout.specs.Operations.{suspendedParts, enteredParts, operationParts, operationNumbered, operationOutside, operationOf}
+use Rattle.layout.specs.Operations.{operationParts}
 use Rattle.layout.specs.Image.{imageOf, enteredIn, deviceOf}
 use Rattle.layout.proofs.Words.{flag-is}
+use Rattle.layout.proofs.Entered.{entered-stored, entered-read}
 use Rattle.face.specs.Face.{Faced, partNamed}
 use Rattle.audit.specs.Called.{lentAfter, Held, Calls, none, more}
 use Rattle.audit.specs.OneTime.{LockedNeverChangesCode, LocksStayCode, LockedInRunsCode, FactoryWordsStayCode, CutLeavesLocksCode, OnlyTheseLeaveCode, saysSealed, saysEntered, LockedNeverChangesCalls, LocksStayCalls, LockedInRunsCalls, FactoryWordsStayCalls, CutLeavesLocksCalls, OnlyTheseLeaveCalls}
@@ -68,49 +62,13 @@ device-seals i = refl
 
 -- ---- word 30 says whether the block is entered
 
-inside-enters : (e : Erase) (i : Inside) → suspendedParts e i .entered ≡ false
-unfolding suspendedParts
-inside-enters e Nothing = refl
-inside-enters e (Runs q) = refl
-
-block-enters : (i : Inside) → enteredParts i .entered ≡ true
-unfolding enteredParts
-block-enters Nothing = refl
-block-enters (Runs q) = refl
-
-parts-enter : (o : Operation) → operationParts o .entered ≡ isEntered (suspensionOf o)
-unfolding operationParts suspensionOf
-parts-enter Idle = refl
-parts-enter (Programming q) = refl
-parts-enter (ProgramSuspended q) = refl
-parts-enter (Window e) = refl
-parts-enter (Erasing e) = refl
-parts-enter (Recovering r) = refl
-parts-enter (EraseSuspended s) = inside-enters (s .erase) (s .inside)
-parts-enter (ChipErasing e) = refl
-parts-enter (InOneTime i) = block-enters i
-
 image-enters : (r : Device) → saysEntered (imageOf r) ≡ inOneTime r
 unfolding imageOf
-image-enters r = flag-is (operationParts (r .operation) .entered) ∙ parts-enter (r .operation)
-
-Outside : Operation → Type 0
-Outside o = isEntered (suspensionOf o) ≡ false
-
-numbered-outside : (n : ℕ) (e : Erase) (q : Program) (t : ℕ) → Outside (operationOutside n e q t)
-unfolding Outside operationNumbered operationOutside suspensionOf
-numbered-outside n e q t =
-    by-test Outside (eqb t 0)
-    (λ _. by-test Outside (eqb n 1) (λ _. refl)
-    (λ _. by-test Outside (eqb n 2) (λ _. refl)
-    (λ _. by-test Outside (eqb n 3) (λ _. refl)
-    (λ _. by-test Outside (eqb n 4) (λ _. refl)
-    (λ _. by-test Outside (eqb n 5) (λ _. refl) (λ _. by-test Outside (eqb n 6) (λ _. refl) (λ _. by-test Outside (eqb n 7) (λ _. refl) (λ _. refl))))))))
-    (λ _. refl)
+image-enters r = flag-is (operationParts (r .operation) .entered) ∙ entered-stored (r .operation)
 
 device-enters : (i : List ℕ) → inOneTime (deviceOf i) ≡ saysEntered i
-unfolding deviceOf operationOf suspensionOf Outside
-device-enters i = by-cases (enteredIn i) (λ t. rw t) (λ t. rw t (numbered-outside _ _ _ _))
+unfolding deviceOf
+device-enters i = entered-read _ _ _ _ (enteredIn i)
 
 -- ---- through C
 

@@ -9,7 +9,7 @@ use Rattle.plain.specs.declared.Erase.{Erase}
 use Rattle.plain.specs.declared.Inside.{Inside}
 use Rattle.plain.specs.declared.Inside.the-variants.{Nothing, Runs}
 use Rattle.plain.specs.declared.Operation.{Operation}
-use Rattle.plain.specs.declared.Operation.the-variants.{Idle, Programming, ProgramSuspended, Window, Erasing, Recovering, EraseSuspended, ChipErasing, InOneTime}
+use Rattle.plain.specs.declared.Operation.the-variants.{Idle, Programming, ProgramSuspended, Window, Erasing, Recovering, EraseSuspended, ChipErasing, InOneTime, OneTimeProgramming}
 use Rattle.plain.specs.declared.Device.{Device}
 use Rattle.plain.specs.Commands.{programIsSuspended}
 use Rattle.plain.specs.Events.{Event}
@@ -21,7 +21,7 @@ use Rattle.plain.specs.SuspendedProgram.{programRests}
 use Rattle.plain.proofs.SuspendedProgram.{Awake, awake-lasts}
 use Rattle.plain.proofs.Tools.{clash}
 use Rattle.history.proofs.Awake.{fresh-awake, no-event-suspends-program, no-run-suspends-program}
-use Rattle.layout.specs.Operations.{suspendedParts, enteredParts, operationParts}
+use Rattle.layout.specs.Operations.{suspendedParts, operationParts}
 use Rattle.layout.specs.Image.{imageOf, deviceOf, partsOf}
 use Rattle.face.specs.Face.{partNamed}
 use Rattle.audit.specs.Called.{Held, Calls, none, more}
@@ -45,11 +45,6 @@ unfolding suspendedParts
 inside-says e Nothing = refl
 inside-says e (Runs q) = refl
 
-entered-says : (i : Inside) → eqb (enteredParts i .number) 2 ≡ false
-unfolding enteredParts
-entered-says Nothing = refl
-entered-says (Runs q) = refl
-
 number-says : (o : Operation) → eqb (operationParts o .number) 2 ≡ programRests o
 unfolding operationParts suspensionOf programIsSuspended
 number-says Idle = refl
@@ -60,7 +55,8 @@ number-says (Erasing e) = refl
 number-says (Recovering r) = refl
 number-says (EraseSuspended s) = inside-says (s .erase) (s .inside)
 number-says (ChipErasing e) = refl
-number-says (InOneTime i) = entered-says i
+number-says InOneTime = refl
+number-says (OneTimeProgramming q) = refl
 
 image-says : (r : Device) → saysSuspended (imageOf r) ≡ programRests (r .operation)
 unfolding imageOf

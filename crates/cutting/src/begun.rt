@@ -35,7 +35,8 @@ pub fn begun_block(part: Part, operation: Operation) -> Place
             if_begun(erase.left, figures::erase_time(part), erase.hand)
         }
         Operation::ChipErasing(erase) => if_begun(erase.left, figures::chip_time(part), erase.hand),
-        Operation::InOneTime(_) => Place::Nowhere,
+        Operation::InOneTime => Place::Nowhere,
+        Operation::OneTimeProgramming(_) => Place::Nowhere,
     }
 }
 
@@ -64,7 +65,8 @@ pub fn begun_program(part: Part, operation: Operation) -> BegunProgram
             begun_inside(part, inside)
         }
         Operation::ChipErasing(_) => BegunProgram::NoProgram,
-        Operation::InOneTime(inside) => begun_inside(part, inside),
+        Operation::InOneTime => BegunProgram::NoProgram,
+        Operation::OneTimeProgramming(program) => program_begun(part, program),
     }
 }
 

@@ -10,8 +10,8 @@ use Rattle.plain.specs.Refusals.{number}
 use Rattle.plain.specs.Figures.{programTime, windowTime, eraseTime, chipTime, runningCurrent, standbyCurrent, clockLimit}
 use Rattle.plain.specs.Programs.{writes, datum, firstWord, arrayWritten, liesIn, blockWritten, bankWritten, barred, barredAs, dq7, raises, finished, debrisWords, debrisFor, cutOff}
 use Rattle.plain.specs.Operations.{runningInside, runningOf, suspensionOf}
-use Rattle.plain.specs.Sound.{meterSound, programSound, listSound, chipListSound, lowest, insideSound, enteredSound, operationSound, cycleUnsuspended, readingSound, cycleInSuspension, cycleSound, stillCommand, isGround, isStill, commandSound, sound}
-use Rattle.plain.specs.Commands.{isSuspended, programIsSuspended, resumes, keepsOut, begins, resets, atGround, afterUnlock, afterUnlocked, afterA0, after80, after80Unlock, after80Unlocked, after48, after60, after68, after6060, afterLock68, exits, afterReading, continued, entered, addBlock, inWindow, unlessRuns, written, effected}
+use Rattle.plain.specs.Sound.{meterSound, programSound, listSound, chipListSound, lowest, insideSound, operationSound, cycleUnsuspended, readingSound, cycleInSuspension, cycleSound, stillCommand, isGround, isStill, commandSound, sound}
+use Rattle.plain.specs.Commands.{isSuspended, programIsSuspended, resumes, keepsOut, begins, resets, atGround, afterUnlock, afterUnlocked, afterA0, after80, after80Unlock, after80Unlocked, after48, after60, after68, after6060, afterLock68, exits, afterReading, continued, entered, addBlock, inWindow, inSuspendedErase, written, effected}
 use Rattle.plain.specs.Time.{current, insideTick, operationTick, lentTick, tick, ticks}
 use Rattle.plain.specs.Status.{polls, insidePolled, polled, status, givenAt, givenWord, readingOn, readingWord, rests, restWord, rested, look}
 use Rattle.plain.specs.Cut.{begunBlock, begunInside, begunProgram, wordOf, blockDebris, programDebris, debrisNeeded, blockCut, programCut, cutLent}
@@ -29,5 +29,5 @@ use Rattle.deeds.specs.Answers.{answersFrom}
 use Rattle.deeds.specs.Script.{ScriptAnswered}
 
 pub script-answered : ScriptAnswered
-unfolding has pack setOf some seek programmed cells.raises erased littered cutShort blockCount bankCount unitOf sizeIn firstIn blockIn bankOf bankIn bankOfBlock refusalAsked blockAsked protectedBy wordLockedBy unprotected number programTime windowTime eraseTime chipTime runningCurrent standbyCurrent clockLimit writes datum firstWord arrayWritten liesIn blockWritten bankWritten barred barredAs dq7 raises finished debrisWords debrisFor cutOff runningInside runningOf suspensionOf meterSound programSound listSound chipListSound lowest insideSound enteredSound operationSound cycleUnsuspended readingSound cycleInSuspension cycleSound stillCommand isGround isStill commandSound sound isSuspended programIsSuspended resumes keepsOut begins resets atGround afterUnlock afterUnlocked afterA0 after80 after80Unlock after80Unlocked after48 after60 after68 after6060 afterLock68 exits afterReading continued entered addBlock inWindow unlessRuns written effected current insideTick operationTick lentTick tick ticks polls insidePolled polled status givenAt givenWord readingOn readingWord rests restWord rested look begunBlock begunInside begunProgram wordOf blockDebris programDebris debrisNeeded blockCut programCut cutLent entry climbed ladder readEvent writeEvent waitEvent cutEvent rangeEvent rangeWords withoutCr itemsFrom digitOf digits anyNumber wordsFrom words same means exposedNow summed digit decimalWithin name eventLine malformedLine endLine blockLine wordLine rangeLine blockLines wordLines wordIn does tells answersFrom
+unfolding has pack setOf some seek programmed cells.raises erased littered cutShort blockCount bankCount unitOf sizeIn firstIn blockIn bankOf bankIn bankOfBlock refusalAsked blockAsked protectedBy wordLockedBy unprotected number programTime windowTime eraseTime chipTime runningCurrent standbyCurrent clockLimit writes datum firstWord arrayWritten liesIn blockWritten bankWritten barred barredAs dq7 raises finished debrisWords debrisFor cutOff runningInside runningOf suspensionOf meterSound programSound listSound chipListSound lowest insideSound operationSound cycleUnsuspended readingSound cycleInSuspension cycleSound stillCommand isGround isStill commandSound sound isSuspended programIsSuspended resumes keepsOut begins resets atGround afterUnlock afterUnlocked afterA0 after80 after80Unlock after80Unlocked after48 after60 after68 after6060 afterLock68 exits afterReading continued entered addBlock inWindow inSuspendedErase written effected current insideTick operationTick lentTick tick ticks polls insidePolled polled status givenAt givenWord readingOn readingWord rests restWord rested look begunBlock begunInside begunProgram wordOf blockDebris programDebris debrisNeeded blockCut programCut cutLent entry climbed ladder readEvent writeEvent waitEvent cutEvent rangeEvent rangeWords withoutCr itemsFrom digitOf digits anyNumber wordsFrom words same means exposedNow summed digit decimalWithin name eventLine malformedLine endLine blockLine wordLine rangeLine blockLines wordLines wordIn does tells answersFrom
 script-answered = refl

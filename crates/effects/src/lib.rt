@@ -11,7 +11,6 @@ ghost use Rattle.layout.specs.Image.{wellFormed, deviceOf, imageOf};
 use moments::Moved;
 use plain::Command;
 use plain::Effect;
-use plain::Operation;
 use plain::Refusal;
 use protection::Protection;
 
@@ -43,7 +42,7 @@ pub fn put_effect(words: &mut [u64], effect: Effect) -> u64
         Effect::Stays(refusal) => answers::number_of(refusal),
         Effect::Drops => {
             storing::put_command(words, Command::Ground);
-            storing::put_operation(words, Operation::Idle);
+            storing::put_idle(words);
             answers::number_of(Refusal::Sequence)
         }
     }
@@ -66,6 +65,6 @@ pub fn put_cut(words: &mut [u64], bits: Protection)
 {
     let kept = bits.after_cut();
     storing::put_command(words, Command::Ground);
-    storing::put_operation(words, Operation::Idle);
+    storing::put_idle(words);
     storing::put_bits(words, kept);
 }

@@ -12,7 +12,7 @@ use Rattle.plain.specs.declared.Erase.{Erase}
 use Rattle.plain.specs.declared.Inside.{Inside}
 use Rattle.plain.specs.declared.Inside.the-variants.{Nothing, Runs}
 use Rattle.plain.specs.declared.Operation.{Operation}
-use Rattle.plain.specs.declared.Operation.the-variants.{Idle, Programming, ProgramSuspended, Window, Erasing, Recovering, EraseSuspended, ChipErasing, InOneTime}
+use Rattle.plain.specs.declared.Operation.the-variants.{Idle, Programming, ProgramSuspended, Window, Erasing, Recovering, EraseSuspended, ChipErasing, InOneTime, OneTimeProgramming}
 use Rattle.plain.specs.declared.Command.{Command}
 use Rattle.plain.specs.declared.Seen.{Seen}
 use Rattle.plain.specs.Choice.{if_then_else_}
@@ -21,7 +21,7 @@ use Rattle.plain.specs.Operations.{runningOf, runningInside, suspensionOf, sele
 use Rattle.plain.specs.Record.{programLeft, eraseLeft, suspended, recovery}
 use Rattle.plain.specs.Status.{look, polls, polled, insidePolled, status, readingOn, readingWord, rests, rested, restWord, seen}
 use Rattle.plain.specs.Time.{Moment, moment, ticks}
-use Rattle.plain.proofs.InTime.{idle-still, program-still, erase-still, entered-still, program-running, inside-running, entered-running, window-running, erase-running, recovery-running}
+use Rattle.plain.proofs.InTime.{idle-still, program-still, erase-still, entered-still, program-running, inside-running, one-time-running, window-running, erase-running, recovery-running}
 use Rattle.plain.proofs.Ticks.{still, drift}
 use Rattle.remaining.specs.Remaining.{changeOf}
 use Rattle.foretold.specs.Foretold.{comeBy, timeless, Unchanged, UnchangedTill}
@@ -70,9 +70,9 @@ module _ (p : Part) where
   unfolding timeless runningOf runningInside suspensionOf polls polled insidePolled status rests rested restWord
   inside-alike e q n = record { runs = refl; rests = refl; shows = λ bits c l a. refl }
 
-  entered-alike : (q : Program) (n : ℕ) → Alike (InOneTime (Runs q)) (InOneTime (Runs (programLeft q n)))
-  unfolding timeless runningOf runningInside suspensionOf polls polled insidePolled status rests rested restWord
-  entered-alike q n = record { runs = refl; rests = refl; shows = λ bits c l a. refl }
+  one-time-alike : (q : Program) (n : ℕ) → Alike (OneTimeProgramming q) (OneTimeProgramming (programLeft q n))
+  unfolding timeless runningOf suspensionOf polls polled status rests rested restWord
+  one-time-alike q n = record { runs = refl; rests = refl; shows = λ bits c l a. refl }
 
   window-alike : (e : Erase) (n : ℕ) → Alike (Window e) (Window (eraseLeft e n))
   unfolding timeless runningOf suspensionOf polls polled status rests rested restWord
@@ -101,12 +101,6 @@ module _ (p : Part) where
   inside-till e (Runs q) mt l k h =
       unchanged mt _ _ _ l k (inside-alike e q (q .left - k)) (drift p _ _ _ _ (inside-running p e q) k (q .left) mt l (leb-false (q .left) k h))
 
-  entered-till : (i : Inside) (mt : Meter) (l : Lent) (k : ℕ) → comeBy (changeOf (runningInside i)) k ≡ false → Till mt (InOneTime i) l k
-  unfolding comeBy changeOf runningInside
-  entered-till Nothing mt l k h = unchanged mt _ _ _ l k (itself _) (still p _ _ (entered-still p) k mt l)
-  entered-till (Runs q) mt l k h =
-      unchanged mt _ _ _ l k (entered-alike q (q .left - k)) (drift p _ _ _ _ (entered-running p q) k (q .left) mt l (leb-false (q .left) k h))
-
   till : (o : Operation) (mt : Meter) (l : Lent) (k : ℕ) → comeBy (changeOf (runningOf o)) k ≡ false → Till mt o l k
   unfolding comeBy changeOf runningOf
   till Idle mt l k h = unchanged mt _ _ _ l k (itself Idle) (still p _ _ (idle-still p) k mt l)
@@ -122,7 +116,9 @@ module _ (p : Part) where
   till (EraseSuspended s) mt l k h = inside-till (s .erase) (s .inside) mt l k h
   till (ChipErasing e) mt l k h =
       unchanged mt _ _ _ l k (chip-alike e (e .left - k)) (drift p _ _ _ _ (erase-running p true e) k (e .left) mt l (leb-false (e .left) k h))
-  till (InOneTime i) mt l k h = entered-till i mt l k h
+  till InOneTime mt l k h = unchanged mt _ _ _ l k (itself InOneTime) (still p _ _ (entered-still p) k mt l)
+  till (OneTimeProgramming q) mt l k h =
+      unchanged mt _ _ _ l k (one-time-alike q (q .left - k)) (drift p _ _ _ _ (one-time-running p q) k (q .left) mt l (leb-false (q .left) k h))
 
   pub unchanged-till : UnchangedTill p
   unchanged-till m k h = till (m .operation) (m .meter) (m .lent) k h

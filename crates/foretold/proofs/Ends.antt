@@ -14,13 +14,13 @@ use Rattle.plain.specs.declared.Erase.{Erase}
 use Rattle.plain.specs.declared.Inside.{Inside}
 use Rattle.plain.specs.declared.Inside.the-variants.{Nothing, Runs}
 use Rattle.plain.specs.declared.Operation.{Operation}
-use Rattle.plain.specs.declared.Operation.the-variants.{Idle, Programming, ProgramSuspended, Window, Erasing, Recovering, EraseSuspended, ChipErasing, InOneTime}
+use Rattle.plain.specs.declared.Operation.the-variants.{Idle, Programming, ProgramSuspended, Window, Erasing, Recovering, EraseSuspended, ChipErasing, InOneTime, OneTimeProgramming}
 use Rattle.plain.specs.declared.Running.{Running}
 use Rattle.plain.specs.declared.Running.the-variants.{Still, Programs, Waits, Erases, Recovers, ErasesChip}
 use Rattle.plain.specs.Figures.{eraseTime, chipTime}
 use Rattle.plain.specs.Operations.{runningOf, runningInside}
 use Rattle.plain.specs.Sound.{isStill}
-use Rattle.plain.specs.Time.{Moment, last, onward, resting, operationTick, insideTick, tick, ticks}
+use Rattle.plain.specs.Time.{Moment, last, onward, operationTick, insideTick, tick, ticks}
 use Rattle.plain.proofs.SoundTime.{tick-fit}
 use Rattle.plain.proofs.Tools.{by-test, by-cases}
 use Rattle.remaining.specs.Remaining.{Fits, toCome, untilEnd}
@@ -52,15 +52,10 @@ module _ (p : Part) where
       done : toCome p (e .list) (e .hand) ≡ 0 → 0 ≡ (e .left + toCome p (e .list) (e .hand) * full) - 1
       done h = rw (h, one) (omega arith)
 
-  inside-less : (e : Erase) (i : Inside) → Timely p (runningInside i) → Less (untilEnd p (runningInside i)) (insideTick (resting e) i)
+  inside-less : (e : Erase) (i : Inside) → Timely p (runningInside i) → Less (untilEnd p (runningInside i)) (insideTick e i)
   unfolding untilEnd runningOf runningInside insideTick Timely
   inside-less e Nothing t = refl
   inside-less e (Runs q) t = by-test (Less (q .left)) (last (q .left)) (λ h. omega (arith, leb-true (q .left) 1 h)) (λ h. refl)
-
-  entered-less : (i : Inside) → Timely p (runningInside i) → Less (untilEnd p (runningInside i)) (insideTick InOneTime i)
-  unfolding untilEnd runningOf runningInside insideTick Timely
-  entered-less Nothing t = refl
-  entered-less (Runs q) t = by-test (Less (q .left)) (last (q .left)) (λ h. omega (arith, leb-true (q .left) 1 h)) (λ h. refl)
 
   tick-less : (o : Operation) → Timely p (runningOf o) → Less (end o) (operationTick p o)
   unfolding untilEnd runningOf runningInside operationTick Timely
@@ -75,7 +70,8 @@ module _ (p : Part) where
   tick-less (EraseSuspended s) t = inside-less (s .erase) (s .inside) t
   tick-less (ChipErasing e) t =
       by-test (Less (end (ChipErasing e))) (last (e .left)) (λ h. onward-less ChipErasing (chipTime p) e (λ x. refl) (omega (arith, leb-true (e .left) 1 h, t .some))) (λ h. omega (arith, t .some))
-  tick-less (InOneTime i) t = entered-less i t
+  tick-less InOneTime t = refl
+  tick-less (OneTimeProgramming q) t = by-test (Less (q .left)) (last (q .left)) (λ h. omega (arith, leb-true (q .left) 1 h)) (λ h. refl)
 
   still-now : (r : Running) → Timely p r → isStill r ≡ leb (untilEnd p r) 0
   unfolding untilEnd isStill Timely

@@ -21,7 +21,7 @@ use Rattle.plain.specs.declared.Inside.{Inside}
 use Rattle.plain.specs.declared.Inside.the-variants.{Nothing, Runs}
 use Rattle.plain.specs.declared.Recovery.{Recovery}
 use Rattle.plain.specs.declared.Operation.{Operation}
-use Rattle.plain.specs.declared.Operation.the-variants.{Idle, Programming, ProgramSuspended, Window, Erasing, Recovering, EraseSuspended, ChipErasing, InOneTime}
+use Rattle.plain.specs.declared.Operation.the-variants.{Idle, Programming, ProgramSuspended, Window, Erasing, Recovering, EraseSuspended, ChipErasing, InOneTime, OneTimeProgramming}
 use Rattle.plain.specs.declared.Running.{Running}
 use Rattle.plain.specs.declared.Running.the-variants.{Still, Programs, Waits, Erases, Recovers, ErasesChip}
 use Rattle.plain.specs.Figures.{eraseTime, chipTime}
@@ -32,8 +32,8 @@ use Rattle.plain.specs.Programs.{writes, firstWord, arrayWritten, liesIn, finis
 use Rattle.plain.specs.Record.{suspended}
 use Rattle.plain.specs.Sound.{operationSound}
 use Rattle.plain.specs.Time.{Moment, moment, eraseFinished, onward, ticks}
-use Rattle.plain.proofs.Facts.{ProgramFacts, programming, inside-runs, entered-runs}
-use Rattle.plain.proofs.InTime.{program-running, inside-running, entered-running, window-running, erase-running, recovery-running}
+use Rattle.plain.proofs.Facts.{ProgramFacts, programming, inside-runs, one-time-programming}
+use Rattle.plain.proofs.InTime.{program-running, inside-running, one-time-running, window-running, erase-running, recovery-running}
 use Rattle.plain.proofs.Programs.{finished-at}
 use Rattle.plain.proofs.Ticks.{lands}
 use Rattle.plain.proofs.Tools.{by-test, clash}
@@ -64,9 +64,9 @@ module _ (p : Part) where
   unfolding timeless runningOf runningInside
   inside-ends e q h = let z : _≡_ {A = ℕ} 0 1 = cc in absurd (omega arith)
 
-  entered-ends : (q : Program) → Other (Programs q) (InOneTime Nothing)
-  unfolding timeless runningOf runningInside
-  entered-ends q h = let z : _≡_ {A = ℕ} 0 1 = cc in absurd (omega arith)
+  one-time-ends : (q : Program) → Other (Programs q) InOneTime
+  unfolding timeless runningOf
+  one-time-ends q h = let z : _≡_ {A = ℕ} 0 1 = cc in absurd (omega arith)
 
   window-ends : (e x : Erase) → Other (Waits e) (Erasing x)
   unfolding timeless runningOf
@@ -141,13 +141,6 @@ module _ (p : Part) where
         due (q .left) h (λ n. Changed p (moment mt (EraseSuspended (suspended e (Runs q))) l) (ticks p n (moment mt (EraseSuspended (suspended e (Runs q))) l)))
         (changed mt _ _ _ l (q .left) (lands p _ _ _ _ (inside-running p e q) (q .left) mt l t) (inside-ends e q) refl (program-elsewhere l whole q (inside-runs p bits (suspended e (Runs q)) q s refl .program .in-part)))
 
-    entered-then : (i : Inside) → Then (InOneTime i)
-    unfolding comesAt changeOf runningOf runningInside suspensionOf completed Timely
-    entered-then Nothing s t h = clash h refl
-    entered-then (Runs q) s t h =
-        due (q .left) h (λ n. Changed p (moment mt (InOneTime (Runs q)) l) (ticks p n (moment mt (InOneTime (Runs q)) l)))
-        (changed mt _ _ _ l (q .left) (lands p _ _ _ _ (entered-running p q) (q .left) mt l t) (entered-ends q) refl (program-elsewhere l whole q (entered-runs p bits q s .in-part)))
-
     then : (o : Operation) → Then o
     unfolding comesAt changeOf runningOf suspensionOf completed changesAt Timely
     then Idle s t h = clash h refl
@@ -168,7 +161,10 @@ module _ (p : Part) where
     then (ChipErasing e) s t h =
         due (e .left) h (λ n. Changed p (moment mt (ChipErasing e) l) (ticks p n (moment mt (ChipErasing e) l)))
         (changed mt _ _ _ l (e .left) (lands p _ _ _ _ (erase-running p true e) (e .left) mt l (t .some)) (chip-ends e) (onward-mode ChipErasing (chipTime p) e (λ x. refl)) (λ y x hx g. block-elsewhere l whole e y x g))
-    then (InOneTime i) s t h = entered-then i s t h
+    then InOneTime s t h = clash h refl
+    then (OneTimeProgramming q) s t h =
+        due (q .left) h (λ n. Changed p (moment mt (OneTimeProgramming q) l) (ticks p n (moment mt (OneTimeProgramming q) l)))
+        (changed mt _ _ _ l (q .left) (lands p _ _ _ _ (one-time-running p q) (q .left) mt l t) (one-time-ends q) refl (program-elsewhere l whole q (one-time-programming p bits q s .in-part)))
 
   pub changed-then : ChangedThen p
   changed-then m f whole k h =

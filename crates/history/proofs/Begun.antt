@@ -15,7 +15,7 @@ use Rattle.plain.specs.declared.Inside.{Inside}
 use Rattle.plain.specs.declared.Inside.the-variants.{Nothing, Runs}
 use Rattle.plain.specs.declared.SuspendedErase.{SuspendedErase}
 use Rattle.plain.specs.declared.Operation.{Operation}
-use Rattle.plain.specs.declared.Operation.the-variants.{Idle, Programming, ProgramSuspended, Window, Erasing, Recovering, EraseSuspended, ChipErasing, InOneTime}
+use Rattle.plain.specs.declared.Operation.the-variants.{Idle, Programming, ProgramSuspended, Window, Erasing, Recovering, EraseSuspended, ChipErasing, InOneTime, OneTimeProgramming}
 use Rattle.plain.specs.declared.Place.{Place}
 use Rattle.plain.specs.declared.Place.the-variants.{At}
 use Rattle.plain.specs.declared.BegunProgram.the-variants.{Writes}
@@ -34,7 +34,7 @@ use Rattle.plain.proofs.CutCells.{nowhere, no-program}
 use Rattle.plain.proofs.Facts.{EraseFacts, erasing, recovering, erase-suspended, chip-erasing, inside-runs}
 use Rattle.plain.proofs.Ends.{erasable-free}
 use Rattle.plain.proofs.SuspendedProgram.{Awake}
-use Rattle.history.proofs.Seen.{seenInside, seenEntered, seenOp}
+use Rattle.history.proofs.Seen.{seenInside, seenOp}
 
 -- ---- a block, or a program, that has begun
 
@@ -61,11 +61,6 @@ module _ (p : Part) where
   inside-program-told e Nothing d h = no-program h
   inside-program-told e (Runs q) d h = let b = begins p q d h in rw (← b .what) (said.inside (b .time))
 
-  entered-program-told : (i : Inside) (d : Written) → begunInside p i ≡ Writes d → ProgramBegun (seenEntered p i) d
-  unfolding begunInside seenEntered
-  entered-program-told Nothing d h = no-program h
-  entered-program-told (Runs q) d h = let b = begins p q d h in rw (← b .what) (said.entered (b .time))
-
   pub program-told : (o : Operation) (d : Written) → Awake o → begunProgram p o ≡ Writes d → ProgramBegun (seenOp p o) d
   unfolding begunProgram seenOp suspensionOf programIsSuspended
   program-told Idle d w h = no-program h
@@ -76,7 +71,8 @@ module _ (p : Part) where
   program-told (Recovering r) d w h = no-program h
   program-told (EraseSuspended x) d w h = inside-program-told (x .erase) (x .inside) d h
   program-told (ChipErasing e) d w h = no-program h
-  program-told (InOneTime i) d w h = entered-program-told i d h
+  program-told InOneTime d w h = no-program h
+  program-told (OneTimeProgramming q) d w h = let b = begins p q d h in rw (← b .what) (said.entered (b .time))
 
   inside-block-told : (e : Erase) (i : Inside) (b : ℕ) → ifBegun (e .left) (eraseTime p) (e .hand) ≡ At b → EraseBegun (seenInside p e i) b
   unfolding seenInside
@@ -97,7 +93,8 @@ module _ (p : Part) where
       rw (← t .place) (said.recovering (t .time))
   block-told (EraseSuspended x) b d = inside-block-told (x .erase) (x .inside) b d
   block-told (ChipErasing e) b d = let t = there (e .left) (chipTime p) (e .hand) b d in rw (← t .place) (said.wiping (t .time))
-  block-told (InOneTime i) b d = nowhere d
+  block-told InOneTime b d = nowhere d
+  block-told (OneTimeProgramming q) b d = nowhere d
 
   -- ---- and back
 
@@ -105,26 +102,16 @@ module _ (p : Part) where
   unfolding seenInside begunInside
   inside-program-is e (Runs q) d (said.inside g) = writing p q g
 
-  entered-program-is : (i : Inside) (d : Written) → ProgramBegun (seenEntered p i) d → begunInside p i ≡ Writes d
-  unfolding seenEntered begunInside
-  entered-program-is (Runs q) d (said.entered g) = writing p q g
-
   pub program-is : (o : Operation) (d : Written) → ProgramBegun (seenOp p o) d → begunProgram p o ≡ Writes d
   unfolding seenOp begunProgram
   program-is (Programming q) d (said.ProgramBegun.running g) = writing p q g
   program-is (EraseSuspended x) d g = inside-program-is (x .erase) (x .inside) d g
-  program-is (InOneTime i) d g = entered-program-is i d g
+  program-is (OneTimeProgramming q) d (said.entered g) = writing p q g
 
   inside-block-is : (e : Erase) (i : Inside) (b : ℕ) → EraseBegun (seenInside p e i) b → ifBegun (e .left) (eraseTime p) (e .hand) ≡ At b
   unfolding seenInside
   inside-block-is e Nothing b (said.resting g) = here (e .left) (eraseTime p) (e .hand) g
   inside-block-is e (Runs q) b (said.around g) = here (e .left) (eraseTime p) (e .hand) g
-
-  -- no erase runs while the one-time block is entered
-  no-erase-entered : {A : Type 0} (i : Inside) (b : ℕ) → EraseBegun (seenEntered p i) b → A
-  unfolding seenEntered
-  no-erase-entered Nothing b g = elim g [ ]
-  no-erase-entered (Runs q) b g = elim g [ ]
 
   pub block-is : (o : Operation) (b : ℕ) → EraseBegun (seenOp p o) b → begunBlock p o ≡ At b
   unfolding seenOp begunBlock
@@ -132,7 +119,6 @@ module _ (p : Part) where
   block-is (Recovering r) b (said.recovering g) = here (r .erase .left) (eraseTime p) (r .erase .hand) g
   block-is (EraseSuspended x) b g = inside-block-is (x .erase) (x .inside) b g
   block-is (ChipErasing e) b (said.wiping g) = here (e .left) (chipTime p) (e .hand) g
-  block-is (InOneTime i) b g = no-erase-entered i b g
 
   -- ---- at most one of each
 
@@ -164,7 +150,8 @@ module _ (p : Part) where
     block-free (Recovering x) s b e = block-free-of (x .erase) (eraseTime p) b (recovering p bits x s .erase .erase) e
     block-free (EraseSuspended x) s b e = block-free-of (x .erase) (eraseTime p) b (erase-suspended p bits x s .erase) e
     block-free (ChipErasing x) s b e = block-free-of x (chipTime p) b (chip-erasing p bits x s) e
-    block-free (InOneTime i) s b e = nowhere e
+    block-free InOneTime s b e = nowhere e
+    block-free (OneTimeProgramming q) s b e = nowhere e
 
     inside-apart : (x : SuspendedErase) (i : Inside) → x .inside ≡ i → operationSound p bits (EraseSuspended x) ≡ true → (d : Written) (b : ℕ) → begunInside p i ≡ Writes d
         → ifBegun (x .erase .left) (eraseTime p) (x .erase .hand) ≡ At b → blockWritten p d ≡ b → ⊥
@@ -185,4 +172,5 @@ module _ (p : Part) where
     apart (Recovering x) s d b e f g = no-program e
     apart (EraseSuspended x) s d b e f g = inside-apart x (x .inside) refl s d b e f g
     apart (ChipErasing x) s d b e f g = no-program e
-    apart (InOneTime i) s d b e f g = nowhere f
+    apart InOneTime s d b e f g = nowhere f
+    apart (OneTimeProgramming q) s d b e f g = nowhere f

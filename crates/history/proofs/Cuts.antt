@@ -15,7 +15,7 @@ use Rattle.plain.specs.declared.Inside.{Inside}
 use Rattle.plain.specs.declared.Inside.the-variants.{Nothing, Runs}
 use Rattle.plain.specs.declared.SuspendedErase.{SuspendedErase}
 use Rattle.plain.specs.declared.Operation.{Operation}
-use Rattle.plain.specs.declared.Operation.the-variants.{Idle, Programming, ProgramSuspended, Window, Erasing, Recovering, EraseSuspended, ChipErasing, InOneTime}
+use Rattle.plain.specs.declared.Operation.the-variants.{Idle, Programming, ProgramSuspended, Window, Erasing, Recovering, EraseSuspended, ChipErasing, InOneTime, OneTimeProgramming}
 use Rattle.plain.specs.declared.Suspension.{Suspension}
 use Rattle.plain.specs.declared.Place.{Place}
 use Rattle.plain.specs.Choice.{if_then_else_}
@@ -28,10 +28,10 @@ use Rattle.plain.specs.Cut.{begun, ifBegun, begunBlock, programBegun, begunInsi
 use Rattle.plain.specs.Doings.{eraseCuts, programCuts, cuts}
 use Rattle.plain.specs.Holds.{Fact}
 use Rattle.plain.proofs.CutCells.{length-block}
-use Rattle.plain.proofs.Facts.{ProgramFacts, programming, inside-runs, entered-runs}
+use Rattle.plain.proofs.Facts.{ProgramFacts, programming, inside-runs, one-time-programming}
 use Rattle.plain.proofs.SuspendedProgram.{Awake}
 use Rattle.plain.proofs.Tools.{by-cases, clash}
-use Rattle.history.proofs.Seen.{seenInside, seenEntered, seenOp}
+use Rattle.history.proofs.Seen.{seenInside, seenOp}
 use Rattle.history.proofs.Holds.{Holds, holds-cut-program, holds-cut-erase}
 
 -- some time has gone exactly when the time left is below the full time
@@ -74,12 +74,6 @@ module _ (p : Part) (bits : Protection) where
         (λ y. length-block p debris l whole (block-of x) enough y ∙ whole y) (inside-runs p bits x q s d .program)
         (block-holds debris fs l (x .erase .left) (eraseTime p) (x .erase .hand) whole enough h))
 
-    entered-holds : (debris : List ℕ) (i : Inside) → operationSound p bits (InOneTime i) ≡ true → (fs : List Fact) (l : Lent) → Whole p l → Holds p start fs l
-        → Holds p start (cuts p (seenEntered p i) debris fs) (programCut (begunInside p i) debris l)
-    unfolding cuts seenEntered begunInside programCut
-    entered-holds debris Nothing s fs l whole h = h
-    entered-holds debris (Runs q) s fs l whole h = program-holds debris fs l _ q whole (entered-runs p bits q s) h
-
     pub cut-holds : (debris : List ℕ) (o : Operation) → Awake o → operationSound p bits o ≡ true → (fs : List Fact) (l : Lent) → Whole p l → debrisNeeded p o ≤ length debris → Holds p start fs l
         → Holds p start (cuts p (seenOp p o) debris fs) (cutLent p o debris l)
     unfolding cuts seenOp cutLent debrisNeeded begunBlock begunProgram programCut blockCut blockDebris suspensionOf programIsSuspended
@@ -92,4 +86,5 @@ module _ (p : Part) (bits : Protection) where
         block-holds debris fs l (r .erase .left) (eraseTime p) (r .erase .hand) whole (omega (arith, enough)) h
     cut-holds debris (EraseSuspended x) w f fs l whole enough h = inside-holds debris x (x .inside) refl f fs l whole (omega (arith, enough)) h
     cut-holds debris (ChipErasing e) w f fs l whole enough h = block-holds debris fs l (e .left) (chipTime p) (e .hand) whole (omega (arith, enough)) h
-    cut-holds debris (InOneTime i) w f fs l whole enough h = entered-holds debris i f fs l whole h
+    cut-holds debris InOneTime w f fs l whole enough h = h
+    cut-holds debris (OneTimeProgramming q) w f fs l whole enough h = program-holds debris fs l _ q whole (one-time-programming p bits q f) h

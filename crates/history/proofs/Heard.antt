@@ -42,7 +42,7 @@ use Rattle.plain.specs.History as told
 use Rattle.plain.proofs.Tools.{by-test, both-right, clash}
 use Rattle.plain.proofs.Register.{standing}
 use Rattle.history.proofs.Fine.{asksFor}
-use Rattle.history.proofs.Seen.{seenInside, seenEntered, seenOp, seen, none-gone}
+use Rattle.history.proofs.Seen.{seenInside, seenOp, seen, none-gone}
 
 module _ (p : Part) (fs : List Fact) (l : Lent) (a w : ℕ) (m : Meter) (bits : Protection) where
   abbrev rec : Command → Operation → Device
@@ -64,14 +64,14 @@ module _ (p : Part) (fs : List Fact) (l : Lent) (a w : ℕ) (m : Meter) (bits : 
   heard s c = hears p (before c (standing s)) c a w
 
   goes : (s : Suspension) (c d : Command) → heard s c ≡ enters (before c (standing s)) d → In s c (Goes d)
-  unfolding effected kind wroteAs wrote seenOp seenInside seenEntered standing
+  unfolding effected kind wroteAs wrote seenOp seenInside standing
   goes Unsuspended c d e = record { tells = e }
   goes (OfProgram q) c d e = record { tells = e }
   goes (OfErase x) c d e = record { tells = e }
   goes Entered c d e = record { tells = e }
 
   starts : (s : Suspension) (c : Command) (n : Operation) → heard s c ≡ told.begins (before c (standing s)) (seenOp p n) → In s c (Starts n)
-  unfolding effected kind wroteAs wrote seenOp seenInside seenEntered standing
+  unfolding effected kind wroteAs wrote seenOp seenInside standing
   starts Unsuspended c n e = record { tells = e }
   starts (OfProgram q) c n e = record { tells = e }
   starts (OfErase x) c n e = record { tells = e }
@@ -82,21 +82,21 @@ module _ (p : Part) (fs : List Fact) (l : Lent) (a w : ℕ) (m : Meter) (bits : 
   guarded h b = telling Ground (h .doing) (b .dyb) (b .ppb) (b .sealed) (h .facts) (h .clock) (h .charge)
 
   guards : (s : Suspension) (c : Command) (b : Protection) → heard s c ≡ guarded (before c (standing s)) b → In s c (Protects b)
-  unfolding effected kind wroteAs wrote seenOp seenInside seenEntered standing
+  unfolding effected kind wroteAs wrote seenOp seenInside standing
   guards Unsuspended c b e = record { tells = e }
   guards (OfProgram q) c b e = record { tells = e }
   guards (OfErase x) c b e = record { tells = e }
   guards Entered c b e = record { tells = e }
 
   sequence : (s : Suspension) (c : Command) → In s c (Falls Sequence)
-  unfolding effected kind wroteAs gaveUp seenOp seenInside seenEntered standing
+  unfolding effected kind wroteAs gaveUp seenOp seenInside standing
   sequence Unsuspended c = record { tells = refl }
   sequence (OfProgram q) c = record { tells = refl }
   sequence (OfErase x) c = record { tells = refl }
   sequence Entered c = record { tells = refl }
 
   down : (s : Suspension) (c : Command) (n : Refusal) → kind n ≡ dropped → In s c (Falls n)
-  unfolding effected wroteAs turnedDown seenOp seenInside seenEntered standing
+  unfolding effected wroteAs turnedDown seenOp seenInside standing
   down Unsuspended c n e = record { tells = rw e }
   down (OfProgram q) c n e = record { tells = rw e }
   down (OfErase x) c n e = record { tells = rw e }
@@ -113,7 +113,7 @@ module _ (p : Part) (fs : List Fact) (l : Lent) (a w : ℕ) (m : Meter) (bits : 
 
   -- F0H, or what else the cycle makes of the write
   resets-told : (s : Suspension) (c : Command) → heard s c ≡ told.resets (before c (standing s)) → In s c (resets s)
-  unfolding resets hasEntered seenOp seenInside seenEntered standing
+  unfolding resets hasEntered seenOp seenInside standing
   resets-told Unsuspended c e = goes Unsuspended c Ground e
   resets-told (OfProgram q) c e = goes (OfProgram q) c Ground e
   resets-told (OfErase x) c e = goes (OfErase x) c Ground e
@@ -137,7 +137,7 @@ module _ (p : Part) (fs : List Fact) (l : Lent) (a w : ℕ) (m : Meter) (bits : 
   resumes-told Entered n f e = sequence Entered Ground
 
   begins-told : (s : Suspension) → keepsOut p s (asksFor s a w) ≡ false → In s (Entering ProgramData) (Starts (begins s (started p (asksFor s a w))))
-  unfolding keepsOut begins hears hearsCycle beginsProgram hasEntered seenOp seenInside seenEntered standing
+  unfolding keepsOut begins hears hearsCycle beginsProgram hasEntered seenOp seenInside standing
   begins-told Unsuspended n = starts Unsuspended _ _ (rw (none-gone (programTime p)))
   begins-told (OfProgram q) n = clash refl n
   begins-told (OfErase x) n = starts (OfErase x) _ _ (rw (none-gone (programTime p)))
@@ -156,7 +156,7 @@ module _ (p : Part) (fs : List Fact) (l : Lent) (a w : ℕ) (m : Meter) (bits : 
   second s c d f g = by-test (In s c) (secondUnlock a w) (λ e. goes s c d (f e)) (λ e. or-reset s c _ g (λ h. sequence s c))
 
   third : (s : Suspension) → In s (Entering Unlocked) (afterUnlocked p bits s a w)
-  unfolding afterUnlocked hears hearsCycle seenOp seenEntered
+  unfolding afterUnlocked hears hearsCycle seenOp
   third s =
       let c = Entering Unlocked in
       let F = In s c in
@@ -201,7 +201,7 @@ module _ (p : Part) (fs : List Fact) (l : Lent) (a w : ℕ) (m : Meter) (bits : 
 
   -- the lock's address, by the history
   at-lock : (s : Suspension) → (hasEntered (seenOp p (standing s)) && isLockAddress a) ≡ atLock s a
-  unfolding hasEntered seenOp seenInside seenEntered standing
+  unfolding hasEntered seenOp seenInside standing
   at-lock Unsuspended = refl
   at-lock (OfProgram q) = refl
   at-lock (OfErase e) = refl
@@ -249,7 +249,7 @@ module _ (p : Part) (fs : List Fact) (l : Lent) (a w : ℕ) (m : Meter) (bits : 
 
   -- 90H and then 00H leaves the one-time block, and nothing else
   exits-told : (s : Suspension) (r : Reading) → exits s r w ≡ true → In s (Reads r) (Starts Idle)
-  unfolding exits hears hasEntered seenOp seenInside seenEntered standing
+  unfolding exits hears hasEntered seenOp seenInside standing
   exits-told Unsuspended (Identity bank) e = clash e refl
   exits-told (OfProgram q) (Identity bank) e = clash e refl
   exits-told (OfErase x) (Identity bank) e = clash e refl

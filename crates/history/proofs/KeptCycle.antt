@@ -14,7 +14,7 @@ use Rattle.protection.specs.Protection.{protected, allProtected, strayBits}
 use Rattle.protection.proofs.Stray.{stray-dyb-set, stray-dyb-cleared, stray-ppb-set, stray-ppbs-cleared}
 use Rattle.plain.specs.declared.Refusal.{Refusal}
 use Rattle.plain.specs.declared.Inside.the-variants.{Nothing}
-use Rattle.plain.specs.declared.Operation.the-variants.{Idle, InOneTime}
+use Rattle.plain.specs.declared.Operation.the-variants.{Idle, InOneTime, OneTimeProgramming}
 use Rattle.plain.specs.declared.Suspension.{Suspension}
 use Rattle.plain.specs.declared.Suspension.the-variants.{Unsuspended, OfProgram, OfErase, Entered}
 use Rattle.plain.specs.declared.Command.{Command}
@@ -28,13 +28,13 @@ use Rattle.plain.specs.Operations.{suspensionOf, isEntered, selected}
 use Rattle.plain.specs.Programs.{barred, barredAs, raises}
 use Rattle.plain.specs.Refusals.{number}
 use Rattle.plain.specs.Cycles.{isAt, is, firstUnlock, secondUnlock, isDyb}
-use Rattle.plain.specs.Sound.{operationSound, enteredSound, cycleUnsuspended, readingSound, cycleInSuspension, cycleSound, stillCommand, commandSound}
+use Rattle.plain.specs.Sound.{operationSound, cycleUnsuspended, readingSound, cycleInSuspension, cycleSound, stillCommand, commandSound}
 use Rattle.plain.specs.Commands.{isSuspended, programIsSuspended, resumes, keepsOut, started, begins, atLock, resets, orReset, unless, chipErase, blockErase, unlessLocked, lockSetup, exits, atGround, afterUnlock, afterUnlocked, afterA0, after80, after80Unlock, after80Unlocked, after48, after60, after68, after6060, afterLock68, afterReading, continued, entered}
 use Rattle.plain.proofs.Tools.{by-test, both-left, both-right, clash}
 use Rattle.plain.proofs.Data.{insideData, dataOf, recoveryLeft}
 use Rattle.plain.proofs.FigureLaws.{program-some}
 use Rattle.plain.proofs.Facts.{ProgramFacts, erase-suspended}
-use Rattle.plain.proofs.FactsHold.{idle-holds, programming-holds, entered-holds, programming-entered-holds, window-holds, inside-holds, chip-holds}
+use Rattle.plain.proofs.FactsHold.{idle-holds, programming-holds, entered-holds, one-time-holds, window-holds, inside-holds, chip-holds}
 use Rattle.plain.proofs.Modest.{raisesInside, raisesIn}
 use Rattle.plain.proofs.Register.{ground-sound, standing, command-standing}
 use Rattle.history.proofs.KeptRegister.{early, unsuspended, late, neither, idle-cycle, lock-cycle, may-program, selected-sound, selected-lies}
@@ -61,7 +61,7 @@ module _ (p : Part) (bits : Protection) (none : strayBits p bits ≡ false) (l :
   fallen s n e = falls e
 
   -- the one-time block is entered, or left
-  comes-in : (s : Suspension) → FineIn s (Starts (InOneTime Nothing))
+  comes-in : (s : Suspension) → FineIn s (Starts InOneTime)
   unfolding dataOf insideData recoveryLeft suspensionOf programIsSuspended raisesIn raisesInside
   comes-in s = starts (entered-holds p bits) (λ g h. (lit< tt, lit< tt)) refl (λ h. refl)
 
@@ -103,7 +103,7 @@ module _ (p : Part) (bits : Protection) (none : strayBits p bits ≡ false) (l :
   begins-fine (OfProgram q) e free off modest = clash refl off
   begins-fine (OfErase x) e free off modest =
       starts (inside-holds p bits _ _ (erase-suspended p bits _ e) (record { program = program-facts (OfErase x) free; off-list = off })) (λ g h. (g, lit< tt)) refl (λ h. modest)
-  begins-fine Entered e free off modest = starts (programming-entered-holds p bits _ (program-facts Entered free)) (λ g h. (g, lit< tt)) refl (λ h. modest)
+  begins-fine Entered e free off modest = starts (one-time-holds p bits _ (program-facts Entered free)) (λ g h. (g, lit< tt)) refl (λ h. modest)
 
   data-fine : (s : Suspension) → operationSound p bits (standing s) ≡ true → Reasons s (Entering ProgramData) → FineIn s (afterA0 p bits s l a w)
   unfolding afterA0 barredAs number
@@ -127,7 +127,7 @@ module _ (p : Part) (bits : Protection) (none : strayBits p bits ≡ false) (l :
 
   -- where nothing is suspended no operation is hurt
   guards : (s : Suspension) → isSuspended s ≡ false → (new : Protection) → strayBits p new ≡ false → (bits .sealed ≡ true → new .sealed ≡ true) → FineIn s (Protects new)
-  unfolding isSuspended standing operationSound enteredSound
+  unfolding isSuspended standing operationSound
   guards Unsuspended n new h k = protects h refl k
   guards (OfProgram q) n new h k = clash refl n
   guards (OfErase e) n new h k = clash refl n

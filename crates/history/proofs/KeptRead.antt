@@ -8,7 +8,7 @@ use Rattle.plain.specs.declared.Erase.{Erase}
 use Rattle.plain.specs.declared.Inside.{Inside}
 use Rattle.plain.specs.declared.Inside.the-variants.{Nothing, Runs}
 use Rattle.plain.specs.declared.Operation.{Operation}
-use Rattle.plain.specs.declared.Operation.the-variants.{Idle, Programming, ProgramSuspended, Window, Erasing, Recovering, EraseSuspended, ChipErasing, InOneTime}
+use Rattle.plain.specs.declared.Operation.the-variants.{Idle, Programming, ProgramSuspended, Window, Erasing, Recovering, EraseSuspended, ChipErasing, InOneTime, OneTimeProgramming}
 use Rattle.plain.specs.declared.Suspension.the-variants.{OfErase}
 use Rattle.plain.specs.declared.Command.{Command}
 use Rattle.plain.specs.declared.Command.the-variants.{Ground, Entering, Reads}
@@ -19,7 +19,7 @@ use Rattle.plain.specs.Lent.{Lent}
 use Rattle.plain.specs.Operations.{runningInside, runningOf, suspensionOf, isEntered}
 use Rattle.plain.specs.Record.{suspended}
 use Rattle.plain.specs.Commands.{programIsSuspended}
-use Rattle.plain.specs.Sound.{programSound, listSound, chipListSound, lowest, insideSound, enteredSound, operationSound, isStill, stillCommand, cycleSound, readingSound, commandSound}
+use Rattle.plain.specs.Sound.{programSound, listSound, chipListSound, lowest, insideSound, operationSound, isStill, stillCommand, cycleSound, readingSound, commandSound}
 use Rattle.plain.specs.Status.{polls, polled, insidePolled, readingOn, rests, rested, look}
 use Rattle.plain.specs.SuspendedProgram.{programRests}
 use Rattle.plain.proofs.Data.{insideData, dataOf, recoveryLeft, Short}
@@ -47,11 +47,6 @@ module _ (p : Part) (bits : Protection) where
   inside-polled e Nothing = alike refl (λ c. refl) (λ h. h) refl refl (λ l. refl)
   inside-polled e (Runs q) = alike refl (λ c. refl) (λ h. h) refl refl (λ l. refl)
 
-  entered-polled : (i : Inside) → Alike (InOneTime i) (InOneTime (insidePolled i))
-  unfolding insidePolled operationSound enteredSound programSound commandSound isStill runningOf runningInside suspensionOf dataOf recoveryLeft insideData raisesIn raisesInside
-  entered-polled Nothing = alike refl (λ c. refl) (λ h. h) refl refl (λ l. refl)
-  entered-polled (Runs q) = alike refl (λ c. refl) (λ h. h) refl refl (λ l. refl)
-
   polled-alike : (o : Operation) (a : ℕ) → Alike o (polled p o a)
   unfolding polled operationSound programSound listSound chipListSound lowest commandSound isStill runningOf suspensionOf dataOf recoveryLeft programIsSuspended raisesIn
   polled-alike Idle a = alike refl (λ c. refl) (λ h. h) refl refl (λ l. refl)
@@ -62,7 +57,8 @@ module _ (p : Part) (bits : Protection) where
   polled-alike (Recovering r) a = alike refl (λ c. refl) (λ h. h) refl refl (λ l. refl)
   polled-alike (EraseSuspended s) a = inside-polled (s .erase) (s .inside)
   polled-alike (ChipErasing e) a = alike refl (λ c. refl) (λ h. h) refl refl (λ l. refl)
-  polled-alike (InOneTime i) a = entered-polled i
+  polled-alike InOneTime a = itself _
+  polled-alike (OneTimeProgramming q) a = alike refl (λ c. refl) (λ h. h) refl refl (λ l. refl)
 
   -- of a suspended erase the register asks nothing more
   same-reading : (e x : Erase) (r : Reading) → readingSound p (OfErase e) r ≡ readingSound p (OfErase x) r
@@ -92,7 +88,8 @@ module _ (p : Part) (bits : Protection) where
   rested-alike (Recovering r) = itself _
   rested-alike (EraseSuspended s) = inside-rested (s .erase) (s .inside)
   rested-alike (ChipErasing e) = itself _
-  rested-alike (InOneTime i) = itself _
+  rested-alike InOneTime = itself _
+  rested-alike (OneTimeProgramming q) = itself _
 
   pub look-alike : (c : Command) (o : Operation) (l : Lent) (a : ℕ) → Alike o (look p bits c o l a .operation)
   unfolding look

@@ -15,7 +15,7 @@ use Rattle.plain.specs.declared.Erase.{Erase}
 use Rattle.plain.specs.declared.Inside.{Inside}
 use Rattle.plain.specs.declared.Inside.the-variants.{Nothing, Runs}
 use Rattle.plain.specs.declared.Operation.{Operation}
-use Rattle.plain.specs.declared.Operation.the-variants.{Idle, Programming, ProgramSuspended, Window, Erasing, Recovering, EraseSuspended, ChipErasing, InOneTime}
+use Rattle.plain.specs.declared.Operation.the-variants.{Idle, Programming, ProgramSuspended, Window, Erasing, Recovering, EraseSuspended, ChipErasing, InOneTime, OneTimeProgramming}
 use Rattle.plain.specs.declared.Suspension.{Suspension}
 use Rattle.plain.specs.declared.Suspension.the-variants.{Unsuspended, OfProgram, OfErase, Entered}
 use Rattle.plain.specs.declared.Command.{Command}
@@ -27,7 +27,7 @@ use Rattle.plain.specs.Record.{erase, suspended, recovery}
 use Rattle.plain.specs.Refusals.{number}
 use Rattle.plain.specs.Cycles.{is}
 use Rattle.plain.specs.Sound.{operationSound, commandSound, sound}
-use Rattle.plain.specs.Commands.{programIsSuspended, entered, addBlock, inWindow, inErase, unlessRuns, written}
+use Rattle.plain.specs.Commands.{programIsSuspended, entered, addBlock, inWindow, inErase, inSuspendedErase, written}
 use Rattle.plain.proofs.Tools.{by-test}
 use Rattle.plain.proofs.Data.{insideData, dataOf, recoveryLeft}
 use Rattle.plain.proofs.FigureLaws.{recovery-some}
@@ -78,19 +78,13 @@ module _ (p : Part) (bits : Protection) (none : strayBits p bits ≡ false) (l :
       recovers : operationSound p bits (Recovering (recovery e (recoveryTime p))) ≡ true
       recovers = recovering-holds p bits _ (record { erase = erasing p bits e s; some-left = recovery-some p; most-left = omega arith })
 
-  -- ---- in a suspended erase, in the one-time block, and any write
+  -- ---- in a suspended erase, and any write
 
   inside-fine : (e : Erase) (i : Inside) (c : Command) → operationSound p bits (EraseSuspended (suspended e i)) ≡ true → commandSound p (EraseSuspended (suspended e i)) c ≡ true
-      → Reasons (OfErase e) c → Fine p bits l w Reason (EraseSuspended (suspended e i)) (unlessRuns i (entered p bits (OfErase e) c l a w))
-  unfolding standing unlessRuns number
+      → Reasons (OfErase e) c → Fine p bits l w Reason (EraseSuspended (suspended e i)) (inSuspendedErase i (entered p bits (OfErase e) c l a w))
+  unfolding standing inSuspendedErase number
   inside-fine e Nothing c s h why = enter-fine p bits none l a w within Reason (OfErase e) c s h why
   inside-fine e (Runs q) c s h why = stays refl
-
-  one-time-fine : (i : Inside) (c : Command) → operationSound p bits (InOneTime i) ≡ true → commandSound p (InOneTime i) c ≡ true → Reasons Entered c
-      → Fine p bits l w Reason (InOneTime i) (unlessRuns i (entered p bits Entered c l a w))
-  unfolding standing unlessRuns number
-  one-time-fine Nothing c s h why = enter-fine p bits none l a w within Reason Entered c s h why
-  one-time-fine (Runs q) c s h why = stays refl
 
   written-fine : (o : Operation) (c : Command) → operationSound p bits o ≡ true → commandSound p o c ≡ true → Reasons (suspensionOf o) c
       → Fine p bits l w Reason o (written p bits o c l a w)
@@ -103,7 +97,8 @@ module _ (p : Part) (bits : Protection) (none : strayBits p bits ≡ false) (l :
   written-fine (Recovering x) c s h why = stays refl
   written-fine (EraseSuspended x) c s h why = inside-fine (x .erase) (x .inside) c s h why
   written-fine (ChipErasing e) c s h why = stays refl
-  written-fine (InOneTime i) c s h why = one-time-fine i c s h why
+  written-fine InOneTime c s h why = enter-fine p bits none l a w within Reason Entered c s h why
+  written-fine (OneTimeProgramming q) c s h why = stays refl
 
 -- a write of a sound record, at an address that there is
 pub write-fine : (p : Part) (r : Device) (l : Lent) (a w : ℕ) (Reason : Type 0) → sound p r ≡ true → not (ltb a (wordCount p)) ≡ false

@@ -14,7 +14,7 @@ use Rattle.plain.specs.declared.Erase.{Erase}
 use Rattle.plain.specs.declared.Inside.{Inside}
 use Rattle.plain.specs.declared.Inside.the-variants.{Nothing, Runs}
 use Rattle.plain.specs.declared.Operation.{Operation}
-use Rattle.plain.specs.declared.Operation.the-variants.{Idle, Programming, ProgramSuspended, Window, Erasing, Recovering, EraseSuspended, ChipErasing, InOneTime}
+use Rattle.plain.specs.declared.Operation.the-variants.{Idle, Programming, ProgramSuspended, Window, Erasing, Recovering, EraseSuspended, ChipErasing, InOneTime, OneTimeProgramming}
 use Rattle.plain.specs.Choice.{if_then_else_}
 use Rattle.plain.specs.Figures.{programTime, eraseTime, chipTime}
 use Rattle.plain.specs.Lent.{Lent, wordsOf}
@@ -26,7 +26,7 @@ use Rattle.plain.proofs.Modest.{raisesInside, raisesIn, Modest}
 use Rattle.plain.proofs.Programs.{modest-leaves}
 use Rattle.plain.proofs.Tools.{by-test, clash}
 use Rattle.history.proofs.Holds.{Holds}
-use Rattle.history.proofs.Seen.{seenInside, seenEntered, seenOp}
+use Rattle.history.proofs.Seen.{seenInside, seenOp}
 
 unfoldable pub Leaves : Part → (start : Lent) → List Fact → Type 0
 Leaves p start fs = (y : Array) (x : ℕ) (d : Written) → x < wordsOf p y → LastEnded p y x d fs → holds p start fs y x ≡ datum d x
@@ -91,11 +91,6 @@ module _ (p : Part) (start : Lent) (fs : List Fact) (l : Lent) (h : Holds p star
   inside-leaves e Nothing m = k
   inside-leaves e (Runs q) m = program-goes q m
 
-  entered-leaves : (i : Inside) → raisesInside l i ≡ false → Leaves p start (comes p (seenEntered p i) fs)
-  unfolding comes seenEntered raisesInside
-  entered-leaves Nothing m = k
-  entered-leaves (Runs q) m = program-goes q m
-
   pub op-leaves : (o : Operation) → Modest l o → Leaves p start (comes p (seenOp p o) fs)
   unfolding comes seenOp raisesIn
   op-leaves Idle m = k
@@ -106,7 +101,8 @@ module _ (p : Part) (start : Lent) (fs : List Fact) (l : Lent) (h : Holds p star
   op-leaves (Recovering r) m = k
   op-leaves (EraseSuspended s) m = inside-leaves (s .erase) (s .inside) m
   op-leaves (ChipErasing e) m = erase-goes e (chipTime p)
-  op-leaves (InOneTime i) m = entered-leaves i m
+  op-leaves InOneTime m = k
+  op-leaves (OneTimeProgramming q) m = program-goes q m
 
 module _ (p : Part) (start : Lent) where
   block-leaves : (g b : ℕ) (debris : List ℕ) (fs : List Fact) → Leaves p start fs → Leaves p start (eraseCuts g b debris fs)

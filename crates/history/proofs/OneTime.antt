@@ -11,15 +11,14 @@ use Rattle.protection.specs.Protection.{factoryWords, wordLockedBy, wordLocked}
 use Rattle.plain.specs.declared.Array.the-variants.{OneTime}
 use Rattle.plain.specs.declared.Refusal.{Refusal}
 use Rattle.plain.specs.declared.Refusal.the-variants.{Done, State, Cells, Address, Clock, Debris, Busy}
-use Rattle.plain.specs.declared.Inside.{Inside}
-use Rattle.plain.specs.declared.Inside.the-variants.{Nothing, Runs}
+use Rattle.plain.specs.declared.Program.{Program}
 use Rattle.plain.specs.declared.Operation.{Operation}
-use Rattle.plain.specs.declared.Operation.the-variants.{Idle, Programming, ProgramSuspended, Window, Erasing, Recovering, EraseSuspended, ChipErasing, InOneTime}
+use Rattle.plain.specs.declared.Operation.the-variants.{Idle, Programming, ProgramSuspended, Window, Erasing, Recovering, EraseSuspended, ChipErasing, InOneTime, OneTimeProgramming}
 use Rattle.plain.specs.declared.Suspension.the-variants.{Entered}
 use Rattle.plain.specs.declared.Effect.{Effect}
 use Rattle.plain.specs.declared.Effect.the-variants.{Goes, Starts, Protects, Falls, Stays, Drops}
 use Rattle.plain.specs.declared.Device.{Device}
-use Rattle.plain.specs.Commands.{entered, unlessRuns, written, effected}
+use Rattle.plain.specs.Commands.{entered, inSuspendedErase, written, effected}
 use Rattle.plain.specs.Cut.{debrisNeeded}
 use Rattle.plain.specs.Events.{Event, read, write, wait, cut, range}
 use Rattle.plain.specs.Lent.{Lent, wordAt}
@@ -46,7 +45,8 @@ not-done n h q = clash (eq-eqb (number n) 0 (rw q)) h
 
 -- the one-time block is entered
 data In : Operation → Type 0 where
-  inside : (i : Inside) → In (InOneTime i)
+  rests : In InOneTime
+  programs : (q : Program) → In (OneTimeProgramming q)
 
 is-in : (o : Operation) → isEntered (suspensionOf o) ≡ true → In o
 unfolding suspensionOf
@@ -58,7 +58,8 @@ is-in (Erasing e) h = clash h refl
 is-in (Recovering e) h = clash h refl
 is-in (EraseSuspended e) h = clash h refl
 is-in (ChipErasing e) h = clash h refl
-is-in (InOneTime i) h = inside i
+is-in InOneTime h = rests
+is-in (OneTimeProgramming q) h = programs q
 
 -- ---- a locked word
 
@@ -154,14 +155,10 @@ module _ (p : Part) (r : Device) (l : Lent) (a w : ℕ) (out : entered p (r .bit
   abbrev Exits : Effect → Type 0
   Exits x = Exited (outcome (effected r x) l)
 
-  inside-exits : (i : Inside) → Exits (unlessRuns i (entered p (r .bits) Entered (r .command) l a w))
-  unfolding Exited unlessRuns effected number
-  inside-exits Nothing = rw out (λ _. refl)
-  inside-exits (Runs q) = not-done Busy refl
-
   write-exits : (o : Operation) → In o → Exits (written p (r .bits) o (r .command) l a w)
-  unfolding written
-  write-exits o (inside i) = inside-exits i
+  unfolding Exited written effected number
+  write-exits InOneTime rests = rw out (λ _. refl)
+  write-exits (OneTimeProgramming q) (programs _) = not-done Busy refl
 
   step-exits : inOneTime r ≡ true → Exited (step p r l (write a w))
   unfolding Exited step writeEvent number
@@ -179,14 +176,10 @@ exit-exits p r l a w bank h c f = step-exits p r l a w (rw c (exit-out p (r .bit
 -- ---- what leaves the block
 
 -- time does not
-inside-lasts : (i : Inside) → isEntered (suspensionOf (insideTick InOneTime i)) ≡ true
-unfolding insideTick suspensionOf
-inside-lasts Nothing = refl
-inside-lasts (Runs q) = by-test (λ (o : Operation). isEntered (suspensionOf o) ≡ true) (last (q .left)) (λ _. refl) (λ _. refl)
-
 tick-lasts : (p : Part) (o : Operation) → In o → isEntered (suspensionOf (operationTick p o)) ≡ true
-unfolding operationTick
-tick-lasts p o (inside i) = inside-lasts i
+unfolding operationTick suspensionOf
+tick-lasts p InOneTime rests = refl
+tick-lasts p (OneTimeProgramming q) (programs _) = by-test (λ (o : Operation). isEntered (suspensionOf o) ≡ true) (last (q .left)) (λ _. refl) (λ _. refl)
 
 ticks-last : (p : Part) (n : ℕ) (m : Moment) → isEntered (suspensionOf (m .operation)) ≡ true → isEntered (suspensionOf (ticks p n m .operation)) ≡ true
 unfolding ticks tick
@@ -212,14 +205,10 @@ module _ (p : Part) (r : Device) (l : Lent) (h : inOneTime r ≡ true) (a w : �
   effect-leaves (Protects new) f = clash h
   effect-leaves (Falls n) f = clash h
 
-  inside-leaves : (i : Inside) → commandSound p (InOneTime i) (r .command) ≡ true → Left (unlessRuns i (entered p (r .bits) Entered (r .command) l a w))
-  unfolding Leaves unlessRuns effected commandSound isStill runningOf runningInside suspensionOf
-  inside-leaves Nothing s = effect-leaves _ (leaving p (r .bits) l a w (r .command) s)
-  inside-leaves (Runs q) s = clash h
-
   write-leaves : (o : Operation) → In o → commandSound p o (r .command) ≡ true → Left (written p (r .bits) o (r .command) l a w)
-  unfolding written
-  write-leaves o (inside i) s = inside-leaves i s
+  unfolding Leaves written effected commandSound isStill runningOf suspensionOf
+  write-leaves InOneTime rests s = effect-leaves _ (leaving p (r .bits) l a w (r .command) s)
+  write-leaves (OneTimeProgramming q) (programs _) s = clash h
 
 pub only-these-leave : (p : Part) → OnlyTheseLeave p
 unfolding Leaves step readEvent writeEvent waitEvent cutEvent rangeEvent

@@ -13,10 +13,11 @@ use Rattle.plain.specs.declared.Array.{Array}
 use Rattle.plain.specs.declared.Refusal.{Refusal}
 use Rattle.plain.specs.declared.Refusal.the-variants.{Done, State, Cells, Address, Clock, Debris, Busy, Sequence, Raise}
 use Rattle.plain.specs.declared.Written.{Written}
+use Rattle.plain.specs.declared.Erase.{Erase}
 use Rattle.plain.specs.declared.Inside.{Inside}
 use Rattle.plain.specs.declared.Inside.the-variants.{Nothing, Runs}
 use Rattle.plain.specs.declared.Operation.{Operation}
-use Rattle.plain.specs.declared.Operation.the-variants.{Idle, Programming, ProgramSuspended, Window, Erasing, Recovering, EraseSuspended, ChipErasing, InOneTime}
+use Rattle.plain.specs.declared.Operation.the-variants.{Idle, Programming, ProgramSuspended, Window, Erasing, Recovering, EraseSuspended, ChipErasing, InOneTime, OneTimeProgramming}
 use Rattle.plain.specs.declared.Suspension.{Suspension}
 use Rattle.plain.specs.declared.Suspension.the-variants.{Unsuspended, OfProgram, OfErase, Entered}
 use Rattle.plain.specs.declared.Command.{Command}
@@ -25,7 +26,7 @@ use Rattle.plain.specs.declared.Cycle.the-variants.{ProgramData}
 use Rattle.plain.specs.declared.Effect.{Effect}
 use Rattle.plain.specs.declared.Effect.the-variants.{Goes, Starts, Protects, Falls, Stays, Drops}
 use Rattle.plain.specs.declared.Device.{Device}
-use Rattle.plain.specs.Commands.{keepsOut, started, begins, afterA0, continued, entered, unlessRuns, written, effected}
+use Rattle.plain.specs.Commands.{keepsOut, started, begins, afterA0, continued, entered, inSuspendedErase, written, effected}
 use Rattle.plain.specs.Events.{Event, read, write, wait, cut, range}
 use Rattle.plain.specs.Figures.{programTime}
 use Rattle.plain.specs.Lent.{Lent, wordAt}
@@ -35,11 +36,12 @@ use Rattle.plain.specs.Programs.{writes, datum, arrayWritten, raises, finished}
 use Rattle.plain.specs.Raise.{asks, WouldStart, wouldLeave, Works, CannotWork, spoils, RaiseOnly, RaiseAlways, OthersStart}
 use Rattle.plain.specs.Refusals.{number}
 use Rattle.plain.specs.Sound.{isGround, isStill, commandSound}
-use Rattle.plain.specs.Time.{Moment, moment, resting, ticks}
+use Rattle.plain.specs.Time.{Moment, moment, ticks}
+use Rattle.plain.specs.Record.{suspended}
 use Rattle.plain.proofs.EventLaws.{write-passes}
 use Rattle.plain.proofs.Facts.{sound-command}
 use Rattle.plain.proofs.FigureLaws.{program-some}
-use Rattle.plain.proofs.InTime.{program-running, inside-running, entered-running}
+use Rattle.plain.proofs.InTime.{program-running, inside-running, one-time-running}
 use Rattle.plain.proofs.Ladder.{by-ladder}
 use Rattle.plain.proofs.Programs.{finished-at, modest-leaves, others-spoil}
 use Rattle.plain.proofs.Ticks.{lands}
@@ -56,7 +58,7 @@ module _ (p : Part) (m : Meter) (l : Lent) (d : Written) where
   leaves-in Unsuspended h = ap (λ (m : Moment). m .lent) (lands p _ _ _ _ (program-running p (started p d)) (programTime p) m l (program-some p))
   leaves-in (OfProgram q) h = clash refl h
   leaves-in (OfErase e) h = ap (λ (m : Moment). m .lent) (lands p _ _ _ _ (inside-running p e (started p d)) (programTime p) m l (program-some p))
-  leaves-in Entered h = ap (λ (m : Moment). m .lent) (lands p _ _ _ _ (entered-running p (started p d)) (programTime p) m l (program-some p))
+  leaves-in Entered h = ap (λ (m : Moment). m .lent) (lands p _ _ _ _ (one-time-running p (started p d)) (programTime p) m l (program-some p))
 
 module _ (p : Part) (r : Device) (l : Lent) (a w : ℕ) (fit : Fit p r l) (within : a < wordCount p) (allowed : keepsOut p (suspensionOf (r .operation)) (asks r a w) ≡ false) where
   abbrev into : Array
@@ -77,12 +79,11 @@ module _ (p : Part) (r : Device) (l : Lent) (a w : ℕ) (fit : Fit p r l) (withi
 -- ---- the data cycle
 
 module _ (p : Part) (bits : Protection) (l : Lent) (a w : ℕ) where
-  -- nothing runs where a command is half entered
-  inside-at-data : (around : Inside → Operation) → ((i : Inside) → runningOf (around i) ≡ runningInside i) → (i : Inside) (x : Effect)
-      → commandSound p (around i) (Entering ProgramData) ≡ true → unlessRuns i x ≡ x
-  unfolding commandSound isStill isGround runningInside unlessRuns
-  inside-at-data around runs Nothing x h = refl
-  inside-at-data around runs (Runs q) x h = clash (rw (runs (Runs q)) at h) refl
+  inside-at-data : (e : Erase) (i : Inside) → commandSound p (EraseSuspended (suspended e i)) (Entering ProgramData) ≡ true
+      → inSuspendedErase i (entered p bits (OfErase e) (Entering ProgramData) l a w) ≡ afterA0 p bits (OfErase e) l a w
+  unfolding commandSound isStill isGround runningOf runningInside inSuspendedErase entered continued
+  inside-at-data e Nothing h = refl
+  inside-at-data e (Runs q) h = clash h refl
 
   at-data : (o : Operation) → commandSound p o (Entering ProgramData) ≡ true → written p bits o (Entering ProgramData) l a w ≡ afterA0 p bits (suspensionOf o) l a w
   unfolding commandSound isStill isGround runningOf suspensionOf written entered continued
@@ -92,9 +93,10 @@ module _ (p : Part) (bits : Protection) (l : Lent) (a w : ℕ) where
   at-data (Window e) h = clash h refl
   at-data (Erasing e) h = clash h refl
   at-data (Recovering r) h = clash h refl
-  at-data (EraseSuspended s) h = inside-at-data (resting (s .erase)) (λ i. refl) (s .inside) _ h
+  at-data (EraseSuspended s) h = inside-at-data (s .erase) (s .inside) h
   at-data (ChipErasing e) h = clash h refl
-  at-data (InOneTime i) h = inside-at-data InOneTime (λ i. refl) i _ h
+  at-data InOneTime h = refl
+  at-data (OneTimeProgramming q) h = clash h refl
 
   in-data-cycle : (o : Operation) (c : Command) → c ≡ Entering ProgramData → commandSound p o c ≡ true → written p bits o c l a w ≡ afterA0 p bits (suspensionOf o) l a w
   in-data-cycle o c e h = rw e (at-data o (rw e at h))

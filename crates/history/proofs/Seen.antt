@@ -8,7 +8,7 @@ use Rattle.plain.specs.declared.Erase.{Erase}
 use Rattle.plain.specs.declared.Inside.{Inside}
 use Rattle.plain.specs.declared.Inside.the-variants.{Nothing, Runs}
 use Rattle.plain.specs.declared.Operation.{Operation}
-use Rattle.plain.specs.declared.Operation.the-variants.{Idle, Programming, ProgramSuspended, Window, Erasing, Recovering, EraseSuspended, ChipErasing, InOneTime}
+use Rattle.plain.specs.declared.Operation.the-variants.{Idle, Programming, ProgramSuspended, Window, Erasing, Recovering, EraseSuspended, ChipErasing, InOneTime, OneTimeProgramming}
 use Rattle.plain.specs.declared.Device.{Device}
 use Rattle.plain.specs.Figures.{programTime, windowTime, eraseTime, recoveryTime, chipTime}
 use Rattle.plain.specs.Doings.{Doing, nothing, programs, waits, erases, recovers, wipes, rests, programsIn, entered, programsEntered}
@@ -20,10 +20,6 @@ unfoldable pub seenInside : Part → Erase → Inside → Doing
 seenInside p e Nothing = rests (e .list) (e .hand) (eraseTime p - e .left)
 seenInside p e (Runs q) = programsIn (q .writes) (programTime p - q .left) (e .list) (e .hand) (eraseTime p - e .left)
 
-unfoldable pub seenEntered : Part → Inside → Doing
-seenEntered p Nothing = entered
-seenEntered p (Runs q) = programsEntered (q .writes) (programTime p - q .left)
-
 -- a run of a fresh device holds no suspended program (`no-run-suspends-program`): nothing is told of one
 unfoldable pub seenOp : Part → Operation → Doing
 seenOp p Idle = nothing
@@ -34,7 +30,8 @@ seenOp p (Erasing e) = erases (e .list) (e .hand) (eraseTime p - e .left)
 seenOp p (Recovering r) = recovers (r .erase .list) (r .erase .hand) (eraseTime p - r .erase .left) (recoveryTime p - r .left)
 seenOp p (EraseSuspended s) = seenInside p (s .erase) (s .inside)
 seenOp p (ChipErasing e) = wipes (e .list) (e .hand) (chipTime p - e .left)
-seenOp p (InOneTime i) = seenEntered p i
+seenOp p InOneTime = entered
+seenOp p (OneTimeProgramming q) = programsEntered (q .writes) (programTime p - q .left)
 
 abbrev pub seen : Part → Device → List Fact → Told
 seen p r fs =
@@ -51,11 +48,6 @@ unfolding seenInside insidePolled
 polled-inside p e Nothing = refl
 polled-inside p e (Runs q) = refl
 
-polled-entered : (p : Part) (i : Inside) → seenEntered p (insidePolled i) ≡ seenEntered p i
-unfolding seenEntered insidePolled
-polled-entered p Nothing = refl
-polled-entered p (Runs q) = refl
-
 pub polled-seen : (p : Part) (o : Operation) (a : ℕ) → seenOp p (polled p o a) ≡ seenOp p o
 unfolding seenOp polled
 polled-seen p Idle a = refl
@@ -66,7 +58,8 @@ polled-seen p (Erasing e) a = refl
 polled-seen p (Recovering r) a = refl
 polled-seen p (EraseSuspended s) a = polled-inside p (s .erase) (s .inside)
 polled-seen p (ChipErasing e) a = refl
-polled-seen p (InOneTime i) a = polled-entered p i
+polled-seen p InOneTime a = refl
+polled-seen p (OneTimeProgramming q) a = refl
 
 rested-inside : (p : Part) (e f : Erase) (i : Inside) → e .list ≡ f .list → e .hand ≡ f .hand → e .left ≡ f .left → seenInside p e i ≡ seenInside p f i
 unfolding seenInside
@@ -83,4 +76,5 @@ rested-seen p (Erasing e) = refl
 rested-seen p (Recovering r) = refl
 rested-seen p (EraseSuspended s) = rested-inside p _ (s .erase) (s .inside) refl refl refl
 rested-seen p (ChipErasing e) = refl
-rested-seen p (InOneTime i) = refl
+rested-seen p InOneTime = refl
+rested-seen p (OneTimeProgramming q) = refl

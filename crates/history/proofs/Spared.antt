@@ -17,7 +17,7 @@ use Rattle.plain.specs.declared.Inside.{Inside}
 use Rattle.plain.specs.declared.Inside.the-variants.{Nothing, Runs}
 use Rattle.plain.specs.declared.SuspendedErase.{SuspendedErase}
 use Rattle.plain.specs.declared.Operation.{Operation}
-use Rattle.plain.specs.declared.Operation.the-variants.{Idle, Programming, ProgramSuspended, Window, Erasing, Recovering, EraseSuspended, ChipErasing, InOneTime}
+use Rattle.plain.specs.declared.Operation.the-variants.{Idle, Programming, ProgramSuspended, Window, Erasing, Recovering, EraseSuspended, ChipErasing, InOneTime, OneTimeProgramming}
 use Rattle.plain.specs.declared.Suspension.{Suspension}
 use Rattle.plain.specs.declared.Place.the-variants.{At}
 use Rattle.plain.specs.Choice.{if_then_else_}
@@ -30,7 +30,7 @@ use Rattle.plain.specs.Sound.{operationSound}
 use Rattle.plain.specs.Time.{Moment, last, lentTick, tick, ticks}
 use Rattle.plain.proofs.BegunSound.{program-free, begun-lies}
 use Rattle.plain.proofs.CutCells.{untouched}
-use Rattle.plain.proofs.Facts.{ProgramFacts, programming, inside-runs, entered-runs}
+use Rattle.plain.proofs.Facts.{ProgramFacts, programming, inside-runs, one-time-programming}
 use Rattle.plain.proofs.Programs.{one-written, first-written, finished-at}
 use Rattle.plain.proofs.Quick.{tick-keeps}
 use Rattle.plain.proofs.SoundTime.{tick-fit}
@@ -76,11 +76,6 @@ module _ (p : Part) (bits : Protection) where
     inside-spares e Nothing d s l whole = refl
     inside-spares e (Runs q) d s l whole = program-spares _ q l whole (inside-runs p bits e q s d .program)
 
-    entered-spares : (i : Inside) → Fit (InOneTime i) → (l : Lent) → Whole p l → Same l (lentTick p (runningInside i) l)
-    unfolding runningInside lentTick
-    entered-spares Nothing s l whole = refl
-    entered-spares (Runs q) s l whole = program-spares _ q l whole (entered-runs p bits q s)
-
     -- an erase finishes blocks of the cells alone
     tick-spares : (o : Operation) → Fit o → (l : Lent) → Whole p l → Same l (lentTick p (runningOf o) l)
     unfolding runningOf lentTick
@@ -92,7 +87,8 @@ module _ (p : Part) (bits : Protection) where
     tick-spares (Recovering r) s l whole = refl
     tick-spares (EraseSuspended e) s l whole = inside-spares e (e .inside) refl s l whole
     tick-spares (ChipErasing e) s l whole = by-test (Same l) (last (e .left)) (λ _. refl) (λ _. refl)
-    tick-spares (InOneTime i) s l whole = entered-spares i s l whole
+    tick-spares InOneTime s l whole = refl
+    tick-spares (OneTimeProgramming q) s l whole = program-spares _ q l whole (one-time-programming p bits q s)
 
     pub ticks-spare : (n : ℕ) (m : Moment) → Fit (m .operation) → Whole p (m .lent) → Same (m .lent) (ticks p n m .lent)
     unfolding ticks tick

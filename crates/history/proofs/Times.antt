@@ -18,7 +18,7 @@ use Rattle.plain.specs.declared.Inside.{Inside}
 use Rattle.plain.specs.declared.Inside.the-variants.{Nothing, Runs}
 use Rattle.plain.specs.declared.SuspendedErase.{SuspendedErase}
 use Rattle.plain.specs.declared.Operation.{Operation}
-use Rattle.plain.specs.declared.Operation.the-variants.{Idle, Programming, ProgramSuspended, Window, Erasing, Recovering, EraseSuspended, ChipErasing, InOneTime}
+use Rattle.plain.specs.declared.Operation.the-variants.{Idle, Programming, ProgramSuspended, Window, Erasing, Recovering, EraseSuspended, ChipErasing, InOneTime, OneTimeProgramming}
 use Rattle.plain.specs.declared.Suspension.{Suspension}
 use Rattle.plain.specs.declared.Command.{Command}
 use Rattle.plain.specs.Choice.{if_then_else_}
@@ -27,16 +27,16 @@ use Rattle.plain.specs.Lent.{Lent, Whole}
 use Rattle.plain.specs.Operations.{runningInside, runningOf}
 use Rattle.plain.specs.Programs.{finished}
 use Rattle.plain.specs.Sound.{operationSound}
-use Rattle.plain.specs.Time.{Moment, last, onward, current, resting, operationTick, insideTick, lentTick, eraseFinished, tick, ticks}
+use Rattle.plain.specs.Time.{Moment, last, onward, current, operationTick, insideTick, lentTick, eraseFinished, tick, ticks}
 use Rattle.plain.specs.Doings.{Doing, nothing, programs, waits, erases, recovers, wipes, rests, programsIn, entered, programsEntered, draws, goes, comes}
 use Rattle.plain.specs.History.{Told, telling, microsecond, time}
 use Rattle.plain.specs.Holds.{Fact, programDone, eraseDone}
 use Rattle.plain.proofs.Tools.{by-cases}
-use Rattle.plain.proofs.Facts.{ProgramFacts, EraseFacts, programming, window, erasing, recovering, chip-erasing, inside-runs, entered-runs}
+use Rattle.plain.proofs.Facts.{ProgramFacts, EraseFacts, programming, window, erasing, recovering, chip-erasing, inside-runs, one-time-programming}
 use Rattle.plain.proofs.Modest.{Modest, tick-modest}
 use Rattle.plain.proofs.Quick.{tick-keeps}
 use Rattle.plain.proofs.SoundTime.{tick-fit}
-use Rattle.history.proofs.Seen.{seenInside, seenEntered, seenOp, none-gone}
+use Rattle.history.proofs.Seen.{seenInside, seenOp, none-gone}
 use Rattle.history.proofs.Holds.{Holds, holds-program, holds-erase}
 use Rattle.history.proofs.Leaves.{Leaves, op-leaves}
 
@@ -62,19 +62,13 @@ module _ (p : Part) (bits : Protection) where
       rw (full-time (q .left) (programTime p) (f .some-left) (f .most-left))
       (by-cases (last (q .left)) (λ t. rw t) (λ t. rw t (ap on (one-more (q .left) (programTime p) t (f .most-left)))))
 
-  inside-goes : (s : SuspendedErase) (i : Inside) → s .inside ≡ i → Fit (EraseSuspended s) → goes p (seenInside p (s .erase) i) ≡ seenOp p (insideTick (resting (s .erase)) i)
+  inside-goes : (s : SuspendedErase) (i : Inside) → s .inside ≡ i → Fit (EraseSuspended s) → goes p (seenInside p (s .erase) i) ≡ seenOp p (insideTick (s .erase) i)
   unfolding goes seenOp seenInside insideTick
   inside-goes s Nothing d f = refl
   inside-goes s (Runs q) d f =
       let e = s .erase in
       program-goes _ q (λ g. programsIn (q .writes) g (e .list) (e .hand) (eraseTime p - e .left)) (rests (e .list) (e .hand) (eraseTime p - e .left)) (inside-runs p bits s q f d .program)
       ∙ by-cases (last (q .left)) (λ t. rw t) (λ t. rw t)
-
-  entered-goes : (i : Inside) → Fit (InOneTime i) → goes p (seenEntered p i) ≡ seenOp p (insideTick InOneTime i)
-  unfolding goes seenOp seenEntered insideTick
-  entered-goes Nothing f = refl
-  entered-goes (Runs q) f =
-      program-goes _ q (programsEntered (q .writes)) entered (entered-runs p bits q f) ∙ by-cases (last (q .left)) (λ t. rw t) (λ t. rw t)
 
   -- the next listed block, in both tellings
   block-goes : (e : Erase) (again : Blocks → ℕ → ℕ → Doing) (over : Erase → Operation) (full : ℕ)
@@ -113,17 +107,14 @@ module _ (p : Part) (bits : Protection) where
       rw (full-time (e .left) (chipTime p) (f .some-left) (f .most-left))
       (by-cases (last (e .left)) (λ t. rw t (block-goes e wipes ChipErasing (chipTime p) (λ x. refl)))
       (λ t. rw t (ap (wipes (e .list) (e .hand)) (one-more (e .left) (chipTime p) t (f .most-left)))))
-  op-goes (InOneTime i) s = entered-goes i s
+  op-goes InOneTime f = refl
+  op-goes (OneTimeProgramming q) f =
+      program-goes _ q (programsEntered (q .writes)) entered (one-time-programming p bits q f) ∙ by-cases (last (q .left)) (λ t. rw t) (λ t. rw t)
 
   inside-draws : (e : Erase) (i : Inside) → draws p (seenInside p e i) ≡ current p (runningInside i)
   unfolding draws seenInside runningInside current
   inside-draws e Nothing = refl
   inside-draws e (Runs q) = refl
-
-  entered-draws : (i : Inside) → draws p (seenEntered p i) ≡ current p (runningInside i)
-  unfolding draws seenEntered runningInside current
-  entered-draws Nothing = refl
-  entered-draws (Runs q) = refl
 
   pub op-draws : (o : Operation) → draws p (seenOp p o) ≡ current p (runningOf o)
   unfolding draws seenOp runningOf current
@@ -135,7 +126,8 @@ module _ (p : Part) (bits : Protection) where
   op-draws (Recovering r) = refl
   op-draws (EraseSuspended x) = inside-draws (x .erase) (x .inside)
   op-draws (ChipErasing e) = refl
-  op-draws (InOneTime i) = entered-draws i
+  op-draws InOneTime = refl
+  op-draws (OneTimeProgramming q) = refl
 
   -- ---- the facts, and the cells
 
@@ -157,11 +149,6 @@ module _ (p : Part) (bits : Protection) where
     inside-holds s Nothing d f = h
     inside-holds s (Runs q) d f = program-holds _ q (inside-runs p bits s q f d .program)
 
-    entered-holds : (i : Inside) → Fit (InOneTime i) → Holds p start (comes p (seenEntered p i) fs) (lentTick p (runningInside i) l)
-    unfolding comes seenEntered runningInside lentTick
-    entered-holds Nothing f = h
-    entered-holds (Runs q) f = program-holds _ q (entered-runs p bits q f)
-
     pub op-holds : (o : Operation) → Fit o → Holds p start (comes p (seenOp p o) fs) (lentTick p (runningOf o) l)
     unfolding comes seenOp runningOf lentTick
     op-holds Idle f = h
@@ -172,7 +159,8 @@ module _ (p : Part) (bits : Protection) where
     op-holds (Recovering r) f = h
     op-holds (EraseSuspended x) f = inside-holds x (x .inside) refl f
     op-holds (ChipErasing e) f = erase-holds e (chipTime p) (chip-erasing p bits e f)
-    op-holds (InOneTime i) f = entered-holds i f
+    op-holds InOneTime f = h
+    op-holds (OneTimeProgramming q) f = program-holds _ q (one-time-programming p bits q f)
 
 -- ---- any number of microseconds
 

@@ -14,7 +14,7 @@ use Rattle.plain.specs.declared.Erase.{Erase}
 use Rattle.plain.specs.declared.Inside.{Inside}
 use Rattle.plain.specs.declared.Inside.the-variants.{Nothing, Runs}
 use Rattle.plain.specs.declared.Operation.{Operation}
-use Rattle.plain.specs.declared.Operation.the-variants.{Idle, Programming, ProgramSuspended, Window, Erasing, Recovering, EraseSuspended, ChipErasing, InOneTime}
+use Rattle.plain.specs.declared.Operation.the-variants.{Idle, Programming, ProgramSuspended, Window, Erasing, Recovering, EraseSuspended, ChipErasing, InOneTime, OneTimeProgramming}
 use Rattle.plain.specs.declared.Suspension.{Suspension}
 use Rattle.plain.specs.declared.Suspension.the-variants.{Unsuspended, OfErase, Entered}
 use Rattle.plain.specs.declared.Command.{Command}
@@ -26,7 +26,7 @@ use Rattle.plain.specs.Figures.{windowTime, eraseTime, recoveryTime}
 use Rattle.plain.specs.Lent.{Lent}
 use Rattle.plain.specs.Operations.{suspensionOf}
 use Rattle.plain.specs.Record.{device, suspended}
-use Rattle.plain.specs.Commands.{programIsSuspended, entered, addBlock, inWindow, unlessRuns, written, effected}
+use Rattle.plain.specs.Commands.{programIsSuspended, entered, addBlock, inWindow, inSuspendedErase, written, effected}
 use Rattle.plain.specs.History.{Told, kind, wrote, gaveUp, turnedDown, wroteAs}
 use Rattle.plain.specs.Holds.{Fact}
 use Rattle.plain.specs.History as told
@@ -52,15 +52,10 @@ module _ (p : Part) (fs : List Fact) (l : Lent) (a w : ℕ) (m : Meter) (bits : 
   unfolding kind
   busy = stays p fs l a w m bits Busy refl
 
-  in-suspended : (c : Command) (e : Erase) (i : Inside) → TellsOf c (EraseSuspended (suspended e i)) (unlessRuns i (entered p bits (OfErase e) c l a w))
-  unfolding unlessRuns standing programIsSuspended
+  in-suspended : (c : Command) (e : Erase) (i : Inside) → TellsOf c (EraseSuspended (suspended e i)) (inSuspendedErase i (entered p bits (OfErase e) c l a w))
+  unfolding inSuspendedErase standing programIsSuspended
   in-suspended c e Nothing = still-told (OfErase e) c refl
   in-suspended c e (Runs q) = busy
-
-  in-one-time : (c : Command) (i : Inside) → TellsOf c (InOneTime i) (unlessRuns i (entered p bits Entered c l a w))
-  unfolding unlessRuns standing programIsSuspended
-  in-one-time c Nothing = still-told Entered c refl
-  in-one-time c (Runs q) = busy
 
   -- ---- while an erase runs
 
@@ -96,7 +91,8 @@ module _ (p : Part) (fs : List Fact) (l : Lent) (a w : ℕ) (m : Meter) (bits : 
   written-told c (Recovering x) n = busy
   written-told c (EraseSuspended s) n = in-suspended c (s .erase) (s .inside)
   written-told c (ChipErasing e) n = busy
-  written-told c (InOneTime i) n = in-one-time c i
+  written-told c InOneTime n = still-told Entered c refl
+  written-told c (OneTimeProgramming q) n = busy
 
 -- a write on any record that holds no suspended program
 pub write-told : (p : Part) (fs : List Fact) (l : Lent) (a w : ℕ) (r : Device) → Awake (r .operation)

@@ -52,10 +52,15 @@ pub fn entered_fits(words: &[u64]) -> bool
     requires { ⌜ length (now words) ≡ recordWords ⌝ }
     ensures { λ r. ⌜ r ≡ enteredFits (now (words .entry)) ⌝ }
 {
-    if words[layout::OPERATION_AT] < 2 {
-        return words[layout::ENTERED_AT] < 2;
+    let entered = words[layout::ENTERED_AT];
+    // Most are not in the block.
+    if entered == 0 {
+        return true;
     }
-    words[layout::ENTERED_AT] == 0
+    if 2 <= words[layout::OPERATION_AT] {
+        return false;
+    }
+    entered < 2
 }
 
 fn erase_fits(words: &[u64]) -> bool

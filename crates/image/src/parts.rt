@@ -33,9 +33,9 @@ pub fn program_of(words: &[u64], entered: bool) -> Program
     let array = operations::selected(mode(entered), at);
     Program {
         writes: Written {
-            array: array,
             at: at,
             word: (words[layout::DATA_AT] % 65536) as u16,
+            array: array,
         },
         left: words[layout::PROGRAM_LEFT_AT],
         dq6: words[layout::TOGGLE_AT] == 1,

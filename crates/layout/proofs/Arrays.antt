@@ -13,15 +13,15 @@ use Rattle.plain.specs.declared.Inside.{Inside}
 use Rattle.plain.specs.declared.Inside.the-variants.{Nothing, Runs}
 use Rattle.plain.specs.declared.Suspension.{Suspension}
 use Rattle.plain.specs.declared.Operation.{Operation}
-use Rattle.plain.specs.declared.Operation.the-variants.{Idle, Programming, ProgramSuspended, Window, Erasing, Recovering, EraseSuspended, ChipErasing, InOneTime}
+use Rattle.plain.specs.declared.Operation.the-variants.{Idle, Programming, ProgramSuspended, Window, Erasing, Recovering, EraseSuspended, ChipErasing, InOneTime, OneTimeProgramming}
 use Rattle.plain.specs.Operations.{selected}
 use Rattle.plain.specs.Programs.{arrayWritten, firstWord}
 use Rattle.plain.specs.Record.{suspended}
 use Rattle.plain.specs.Sound.{operationSound}
 use Rattle.plain.proofs.Tools.{by-test, clash}
 use Rattle.plain.proofs.Lents.{same-true}
-use Rattle.plain.proofs.Facts.{ProgramFacts, programming, program-suspended, inside-runs, entered-runs}
-use Rattle.layout.specs.Operations.{partsWith, suspendedParts, enteredParts, operationParts, operationNumbered, operationOutside, insideNumbered, operationOf}
+use Rattle.plain.proofs.Facts.{ProgramFacts, programming, program-suspended, inside-runs, one-time-programming}
+use Rattle.layout.specs.Operations.{partsWith, suspendedParts, operationParts, operationNumbered, operationOutside, operationInside, operationOf}
 use Rattle.layout.specs.Image.{enteredIn, programOf, deviceOf}
 use Rattle.layout.specs.Promises.{Selects}
 
@@ -40,11 +40,6 @@ module _ (p : Part) (bits : Protection) where
   inside-right e Nothing h = λ has. clash has refl
   inside-right e (Runs q) h = λ has. chosen (inside-runs p bits (suspended e (Runs q)) q h refl .program)
 
-  entered-right : (i : Inside) → operationSound p bits (InOneTime i) ≡ true → Right (InOneTime i)
-  unfolding Right operationParts enteredParts
-  entered-right Nothing h = λ has. clash has refl
-  entered-right (Runs q) h = λ has. chosen (entered-runs p bits q h)
-
   sound-right : (o : Operation) → operationSound p bits o ≡ true → Right o
   unfolding Right operationParts
   sound-right Idle h = λ has. clash has refl
@@ -55,7 +50,8 @@ module _ (p : Part) (bits : Protection) where
   sound-right (Recovering r) h = λ has. clash has refl
   sound-right (EraseSuspended s) h = inside-right (s .erase) (s .inside) h
   sound-right (ChipErasing e) h = λ has. clash has refl
-  sound-right (InOneTime i) h = entered-right i h
+  sound-right InOneTime h = λ has. clash has refl
+  sound-right (OneTimeProgramming q) h = λ has. chosen (one-time-programming p bits q h)
 
   pub sound-selects : (o : Operation) → operationSound p bits o ≡ true → Selects (operationParts o)
   unfolding Right
@@ -79,16 +75,13 @@ module _ (i : List ℕ) where
   unfolding operationOutside Right operationParts
   outside-right n e t = by-test Right (eqb t 0) (λ _. numbered-right n e) (λ _ has. clash has refl)
 
-  RightIn : Inside → Type 0
-  RightIn x = Right (InOneTime x)
-
-  number-right : (n : ℕ) → RightIn (insideNumbered n (programOf true i))
-  unfolding insideNumbered RightIn Right operationParts enteredParts
-  number-right n = by-test RightIn (eqb n 1) (λ _ has. refl) (λ _ has. clash has refl)
+  entered-right : (n : ℕ) → Right (operationInside n (programOf true i))
+  unfolding operationInside Right operationParts
+  entered-right n = by-test Right (eqb n 1) (λ _ has. refl) (λ _ has. clash has refl)
 
   mode-right : (n : ℕ) (e : Erase) (t : ℕ) (entered : Bool) → Right (operationOf (partsWith n e (programOf entered i) t entered))
-  unfolding operationOf RightIn
-  mode-right n e t true = number-right n
+  unfolding operationOf
+  mode-right n e t true = entered-right n
   mode-right n e t false = outside-right n e t
 
   pub words-select : Selects (operationParts (deviceOf i .operation))

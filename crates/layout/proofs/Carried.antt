@@ -9,10 +9,10 @@ use lib.ListN.{length}
 use borrow.Author.Tests.{eqb-true}
 use Rattle.plain.specs.declared.Program.{Program}
 use Rattle.plain.specs.declared.Erase.{Erase}
-use Rattle.plain.specs.declared.Inside.{Inside}
 use Rattle.plain.specs.declared.Operation.{Operation}
-use Rattle.plain.specs.declared.Operation.the-variants.{Idle, Programming, ProgramSuspended, Window, Erasing, Recovering, EraseSuspended, ChipErasing, InOneTime}
+use Rattle.plain.specs.declared.Operation.the-variants.{Idle, Programming, ProgramSuspended, Window, Erasing, Recovering, EraseSuspended, ChipErasing, InOneTime, OneTimeProgramming}
 use Rattle.plain.specs.Choice.{if_then_else_}
+use Rattle.plain.specs.Operations.{suspensionOf, isEntered}
 use Rattle.plain.proofs.Tools.{by-test, both, both-left, both-right, clash}
 use Rattle.layout.specs.Places.{layoutNumber, recordWords, secondLayout, secondWords, layoutAt, clockAt, operationAt, lockAt, recoveryAt, enteredAt, sealedAt}
 use Rattle.layout.specs.Commands.{commandFits}
@@ -20,6 +20,7 @@ use Rattle.layout.specs.Operations.{partsWith, operationNumbered, operat
 use Rattle.layout.specs.Image.{word, wordsFrom, section, zeros, commandWordsOf, eraseOf, programOf, ofLayout, marked, eraseFits, programFits, operationFits, recoveryFits, enteredFits, wellFormed, deviceOf}
 use Rattle.layout.specs.Carried.{Older, first, second, numberIn, wordsIn, commandFitted, recoveryFitted, wellFormedIn, operationIn, deviceIn, carriable, carried, CarriesOver, NoneRecovered, NoneEntered, StaysCarried}
 use Rattle.layout.proofs.Words.{section-whole}
+use Rattle.layout.proofs.Entered.{entered-read}
 
 -- past the end a word is 0
 pub past-end : (i : List ℕ) (n : ℕ) → length i ≤ n → word i n ≡ 0
@@ -134,7 +135,8 @@ isEarly (Erasing e) = true
 isEarly (Recovering r) = false
 isEarly (EraseSuspended s) = true
 isEarly (ChipErasing e) = true
-isEarly (InOneTime i) = false
+isEarly InOneTime = false
+isEarly (OneTimeProgramming q) = false
 
 Early : Operation → Type 0
 Early o = isEarly o ≡ true
@@ -154,19 +156,9 @@ pub none-recovered : NoneRecovered
 unfolding deviceIn operationIn Early isEarly
 none-recovered i r e = clash (numbered-early _ _ _) (ap isEarly e)
 
-Outside : Operation → Type 0
-Outside o = (x : Inside) → o ≡ InOneTime x → ⊥
-
-outside : (n : ℕ) (e : Erase) (q : Program) (t : ℕ) → Outside (operationOutside n e q t)
-unfolding operationOutside Outside Early isEarly
-outside n e q t =
-    by-test Outside (eqb t 0) (λ _ x same. clash (numbered-early n e q) (ap isEarly same))
-    (λ _ x same. let z : _≡_ {A = ℕ} 0 1 = cc in absurd (omega (arith, z)))
-
 -- by the words of the mode and of the lock
-by-mode : (w n : ℕ) (e : Erase) (q : Program) (t : ℕ) → w ≡ 0 → Outside (operationOf (partsWith n e q t (eqb w 1)))
-unfolding operationOf
-by-mode w n e q t none = rw none (outside n e q t)
+by-mode : (w n : ℕ) (e : Erase) (q : Program) (t : ℕ) → w ≡ 0 → isEntered (suspensionOf (operationOf (partsWith n e q t (eqb w 1)))) ≡ false
+by-mode w n e q t none = rw none (entered-read n e q t false)
 
 by-lock : (w : ℕ) → w ≡ 0 → eqb w 1 ≡ false
 by-lock w none = rw none
@@ -176,7 +168,7 @@ older-few first = omega arith
 older-few second = omega arith
 
 pub none-entered : NoneEntered
-unfolding carried deviceOf wordsFrom Outside
+unfolding carried deviceOf wordsFrom
 none-entered v i of =
     let few = older-few v in
     (by-mode (word i enteredAt) _ _ _ _ (beyond v i of enteredAt (omega (arith, few))), by-lock (word i sealedAt) (beyond v i of sealedAt (omega (arith, few))))

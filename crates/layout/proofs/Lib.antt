@@ -3,6 +3,7 @@ pub mod Commands
 pub mod Operations
 pub mod Round
 pub mod Canonical
+pub mod Entered
 pub mod Carried
 pub mod Idle
 pub mod Stored

@@ -11,11 +11,11 @@ use Rattle.plain.specs.declared.Inside.{Inside}
 use Rattle.plain.specs.declared.Inside.the-variants.{Nothing, Runs}
 use Rattle.plain.specs.declared.Recovery.{Recovery}
 use Rattle.plain.specs.declared.Operation.{Operation}
-use Rattle.plain.specs.declared.Operation.the-variants.{Idle, Programming, ProgramSuspended, Window, Erasing, Recovering, EraseSuspended, ChipErasing, InOneTime}
+use Rattle.plain.specs.declared.Operation.the-variants.{Idle, Programming, ProgramSuspended, Window, Erasing, Recovering, EraseSuspended, ChipErasing, InOneTime, OneTimeProgramming}
 use Rattle.plain.specs.Choice.{if_then_else_}
 use Rattle.plain.specs.Record.{suspended}
 use Rattle.layout.specs.declared.OperationParts.{OperationParts}
-use Rattle.layout.specs.Operations.{noErase, noProgram, partsWith, parts, suspendedParts, enteredParts, operationParts, erases, programs, operationNumbered, operationOutside, insideNumbered, operationOf}
+use Rattle.layout.specs.Operations.{noErase, noProgram, partsWith, parts, suspendedParts, operationParts, erases, programs, operationNumbered, operationOutside, operationInside, operationOf}
 use Rattle.layout.specs.Image.{flag}
 use Rattle.plain.proofs.Tools.{by-cases}
 use Rattle.layout.proofs.Words.{each}
@@ -54,22 +54,8 @@ suspended-told e (Runs x) =
       back = λ h q s. ap (λ (z : Program). EraseSuspended (suspended e (Runs z))) (s refl);
     }
 
-entered-told : (i : Inside) → Told (InOneTime i)
-unfolding operationParts enteredParts insideNumbered operationOf
-entered-told Nothing =
-    record { number = refl; erase = refl; program = refl; recovery = refl; entered = refl; back = λ h q s. refl }
-entered-told (Runs x) =
-    record {
-      number = refl;
-      erase = refl;
-      program = refl;
-      recovery = refl;
-      entered = refl;
-      back = λ h q s. ap (λ (z : Program). InOneTime (Runs z)) (s refl);
-    }
-
 pub told : (o : Operation) → Told o
-unfolding operationParts operationNumbered operationOutside operationOf
+unfolding operationParts operationNumbered operationOutside operationInside operationOf
 told Idle = record { number = refl; erase = refl; program = refl; recovery = refl; entered = refl; back = λ h q s. refl }
 told (Programming x) =
     record { number = refl; erase = refl; program = refl; recovery = refl; entered = refl; back = λ h q s. ap Programming (s refl) }
@@ -88,7 +74,9 @@ told (Recovering r) =
     }
 told (EraseSuspended s) = suspended-told (s .erase) (s .inside)
 told (ChipErasing e) = record { number = refl; erase = refl; program = refl; recovery = refl; entered = refl; back = λ h q s. refl }
-told (InOneTime i) = entered-told i
+told InOneTime = record { number = refl; erase = refl; program = refl; recovery = refl; entered = refl; back = λ h q s. refl }
+told (OneTimeProgramming x) =
+    record { number = refl; erase = refl; program = refl; recovery = refl; entered = refl; back = λ h q s. ap OneTimeProgramming (s refl) }
 
 -- ---- from a number below 8, an erase, a program, a recovery where the number is an erase's, and a mode where it is 0 or 1
 
@@ -115,7 +103,7 @@ outside-back n t h f e q =
     (λ z. rw (z, eqb-true n 4 (or-left (eqb n 4) (rw z at f))))
 
 entered-back : (n : ℕ) → ltb n 2 ≡ true → Backed n 0 true
-unfolding operationOf insideNumbered operationParts enteredParts
+unfolding operationOf operationInside operationParts
 entered-back = each 2 (λ n. Backed n 0 true) ((λ e q. refl), ((λ e q. refl), tt))
 
 pub back : (n t : ℕ) (entered : Bool) → ltb n 8 ≡ true → (eqb n 4 || eqb t 0) ≡ true → (entered ≡ true → ltb n 2 ≡ true) → Backed n t entered

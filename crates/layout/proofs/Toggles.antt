@@ -7,14 +7,14 @@ use Rattle.plain.specs.declared.Erase.{Erase}
 use Rattle.plain.specs.declared.Inside.{Inside}
 use Rattle.plain.specs.declared.Inside.the-variants.{Nothing, Runs}
 use Rattle.plain.specs.declared.Operation.{Operation}
-use Rattle.plain.specs.declared.Operation.the-variants.{Idle, Programming, ProgramSuspended, Window, Erasing, Recovering, EraseSuspended, ChipErasing, InOneTime}
+use Rattle.plain.specs.declared.Operation.the-variants.{Idle, Programming, ProgramSuspended, Window, Erasing, Recovering, EraseSuspended, ChipErasing, InOneTime, OneTimeProgramming}
 use Rattle.plain.specs.declared.Command.{Command}
 use Rattle.plain.specs.declared.Seen.{Seen}
 use Rattle.plain.specs.Lent.{Lent}
 use Rattle.plain.specs.Operations.{runningOf, suspensionOf}
 use Rattle.plain.specs.Status.{polls, insidePolled, polled, readingOn, rests, rested, look}
 use Rattle.plain.proofs.Tools.{by-test}
-use Rattle.layout.specs.Operations.{suspendedParts, enteredParts, operationParts}
+use Rattle.layout.specs.Operations.{suspendedParts, operationParts}
 use Rattle.layout.proofs.Stored.{retoggled}
 
 -- is the one operation the other, but for the toggles?
@@ -26,11 +26,6 @@ unfolding suspendedParts
 inside-same e Nothing = refl
 inside-same e (Runs q) = refl
 
-entered-same : (x : Inside) → retoggled (enteredParts x) (enteredParts x) ≡ enteredParts x
-unfolding enteredParts
-entered-same Nothing = refl
-entered-same (Runs q) = refl
-
 pub same : (o : Operation) → Retoggled o o
 unfolding operationParts
 same Idle = refl
@@ -41,17 +36,13 @@ same (Erasing e) = refl
 same (Recovering r) = refl
 same (EraseSuspended s) = inside-same (s .erase) (s .inside)
 same (ChipErasing e) = refl
-same (InOneTime i) = entered-same i
+same InOneTime = refl
+same (OneTimeProgramming q) = refl
 
 inside-flips : (e : Erase) (x : Inside) → retoggled (suspendedParts e x) (suspendedParts e (insidePolled x)) ≡ suspendedParts e (insidePolled x)
 unfolding suspendedParts insidePolled
 inside-flips e Nothing = refl
 inside-flips e (Runs q) = refl
-
-entered-flips : (x : Inside) → retoggled (enteredParts x) (enteredParts (insidePolled x)) ≡ enteredParts (insidePolled x)
-unfolding enteredParts insidePolled
-entered-flips Nothing = refl
-entered-flips (Runs q) = refl
 
 poll-flips : (p : Part) (o : Operation) (a : ℕ) → Retoggled o (polled p o a)
 unfolding operationParts polled
@@ -63,7 +54,8 @@ poll-flips p (Erasing e) a = refl
 poll-flips p (Recovering r) a = refl
 poll-flips p (EraseSuspended s) a = inside-flips (s .erase) (s .inside)
 poll-flips p (ChipErasing e) a = refl
-poll-flips p (InOneTime i) a = entered-flips i
+poll-flips p InOneTime a = refl
+poll-flips p (OneTimeProgramming q) a = refl
 
 outside-flips : (e f : Erase) (x : Inside) → f .list ≡ e .list → f .hand ≡ e .hand → f .left ≡ e .left
     → retoggled (suspendedParts e x) (suspendedParts f x) ≡ suspendedParts f x
@@ -81,7 +73,8 @@ rest-flips (Erasing e) = refl
 rest-flips (Recovering r) = refl
 rest-flips (EraseSuspended s) = outside-flips (s .erase) _ (s .inside) refl refl refl
 rest-flips (ChipErasing e) = refl
-rest-flips (InOneTime i) = entered-same i
+rest-flips InOneTime = refl
+rest-flips (OneTimeProgramming q) = refl
 
 pub look-flips : (p : Part) (bits : Protection) (c : Command) (o : Operation) (l : Lent) (a : ℕ) → Retoggled o (look p bits c o l a .operation)
 unfolding look

@@ -5,11 +5,11 @@ use mathlib.Core.Path.{_≡_}
 use mathlib.Core.Bool.{Bool, true, false, _&&_, _||_}
 use mathlib.Core.List.{List, _∷_}
 use lib.Dec.{ltb}
-use Rattle.plain.specs.declared.Inside.{Inside}
 use Rattle.plain.specs.declared.Recovery.{Recovery}
 use Rattle.plain.specs.declared.Operation.{Operation}
-use Rattle.plain.specs.declared.Operation.the-variants.{Recovering, InOneTime}
+use Rattle.plain.specs.declared.Operation.the-variants.{Recovering}
 use Rattle.plain.specs.declared.Device.{Device}
+use Rattle.plain.specs.Operations.{suspensionOf, isEntered}
 use Rattle.plain.specs.Record.{device}
 use Rattle.layout.specs.declared.CommandWords.{CommandWords}
 use Rattle.layout.specs.Places.{layoutNumber, recordWords, firstLayout, firstWords, secondLayout, secondWords, clockAt, operationAt, lockAt, recoveryAt}
@@ -79,7 +79,7 @@ NoneRecovered = (i : List ℕ) (r : Recovery) → deviceIn first i .operation �
 abbrev pub NoneEntered : Type 0
 NoneEntered =
     (v : Older) (i : List ℕ) → ofLayout (numberIn v) (wordsIn v) i ≡ true
-    → ((x : Inside) → deviceOf (carried i) .operation ≡ InOneTime x → ⊥) × (deviceOf (carried i) .bits .sealed ≡ false)
+    → (isEntered (suspensionOf (deviceOf (carried i) .operation)) ≡ false) × (deviceOf (carried i) .bits .sealed ≡ false)
 
 -- words of this layout stay as they are
 abbrev pub StaysCarried : Type 0

@@ -9,7 +9,7 @@ use Rattle.plain.specs.declared.Erase.{Erase}
 use Rattle.plain.specs.declared.Inside.{Inside}
 use Rattle.plain.specs.declared.Inside.the-variants.{Nothing, Runs}
 use Rattle.plain.specs.declared.Operation.{Operation}
-use Rattle.plain.specs.declared.Operation.the-variants.{Idle, Programming, ProgramSuspended, Window, Erasing, Recovering, EraseSuspended, ChipErasing, InOneTime}
+use Rattle.plain.specs.declared.Operation.the-variants.{Idle, Programming, ProgramSuspended, Window, Erasing, Recovering, EraseSuspended, ChipErasing, InOneTime, OneTimeProgramming}
 use Rattle.plain.specs.Choice.{if_then_else_}
 use Rattle.plain.specs.Programs.{writing}
 use Rattle.plain.specs.Record.{program, erase, suspended, recovery}
@@ -33,9 +33,8 @@ suspendedParts e Nothing = parts 5 e noProgram
 suspendedParts e (Runs q) = parts 6 e q
 
 -- in the one-time block: the numbers of nothing and of a program
-unfoldable pub enteredParts : Inside → OperationParts
-enteredParts Nothing = partsWith 0 noErase noProgram 0 true
-enteredParts (Runs q) = partsWith 1 noErase q 0 true
+abbrev pub enteredParts : (number : ℕ) → Program → OperationParts
+enteredParts n q = partsWith n noErase q 0 true
 
 unfoldable pub operationParts : Operation → OperationParts
 operationParts Idle = parts 0 noErase noProgram
@@ -46,7 +45,8 @@ operationParts (Erasing e) = parts 4 e noProgram
 operationParts (Recovering r) = partsWith 4 (r .erase) noProgram (r .left) false
 operationParts (EraseSuspended s) = suspendedParts (s .erase) (s .inside)
 operationParts (ChipErasing e) = parts 7 e noProgram
-operationParts (InOneTime i) = enteredParts i
+operationParts InOneTime = enteredParts 0 noProgram
+operationParts (OneTimeProgramming q) = enteredParts 1 q
 
 -- the numbers of those that have an erase, and a program
 abbrev pub erases : (number : ℕ) → Bool
@@ -72,10 +72,10 @@ unfoldable pub operationOutside : (number : ℕ) → Erase → Program → (reco
 operationOutside n e q t = if eqb t 0 then operationNumbered n e q else Recovering (recovery e t)
 
 -- from layout 3 on: in the one-time block, a program or nothing
-unfoldable pub insideNumbered : (number : ℕ) → Program → Inside
-insideNumbered n q = if eqb n 1 then Runs q else Nothing
+unfoldable pub operationInside : (number : ℕ) → Program → Operation
+operationInside n q = if eqb n 1 then OneTimeProgramming q else InOneTime
 
 unfoldable pub operationOf : OperationParts → Operation
 operationOf o =
-    if o .entered then InOneTime (insideNumbered (o .number) (o .program))
+    if o .entered then operationInside (o .number) (o .program)
     else operationOutside (o .number) (o .erase) (o .program) (o .recovery)

@@ -12,7 +12,7 @@ use Rattle.plain.specs.declared.Program.{Program}
 use Rattle.plain.specs.declared.Erase.{Erase}
 use Rattle.plain.specs.declared.Inside.the-variants.{Nothing, Runs}
 use Rattle.plain.specs.declared.Operation.{Operation}
-use Rattle.plain.specs.declared.Operation.the-variants.{Idle, Programming, ProgramSuspended, Window, Erasing, Recovering, EraseSuspended, ChipErasing, InOneTime}
+use Rattle.plain.specs.declared.Operation.the-variants.{Idle, Programming, ProgramSuspended, Window, Erasing, Recovering, EraseSuspended, ChipErasing, InOneTime, OneTimeProgramming}
 use Rattle.plain.specs.declared.Command.{Command}
 use Rattle.plain.specs.declared.Command.the-variants.{Ground, Entering, Reads}
 use Rattle.plain.specs.declared.Cycle.the-variants.{Unlock, Unlocked, ProgramData, EraseSetup, EraseUnlock, EraseUnlocked, DybData, PpbSetup, PpbSetting, PpbClearing, OtpLocking}
@@ -21,7 +21,7 @@ use Rattle.plain.specs.declared.Device.{Device}
 use Rattle.plain.specs.Programs.{writing}
 use Rattle.plain.specs.Record.{device, program, erase, suspended, recovery, fresh}
 use Rattle.layout.specs.Commands.{cycleWords, readingWords, commandWords, commandFits, cycleOf, commandOf}
-use Rattle.layout.specs.Operations.{suspendedParts, enteredParts, operationParts, operationNumbered, operationOutside, insideNumbered, operationOf}
+use Rattle.layout.specs.Operations.{suspendedParts, operationParts, operationNumbered, operationOutside, operationInside, operationOf}
 use Rattle.layout.specs.Image.{imageOf, wordsFrom, zeros, marked, eraseFits, programFits, operationFits, recoveryFits, enteredFits, wellFormed, idleWords, deviceOf}
 use Rattle.layout.specs.Carried.{first, second, wellFormedIn, operationIn, deviceIn, carriable, carried}
 
@@ -134,19 +134,19 @@ rows =
     ∷ row (held Ground (EraseSuspended (suspended last (Runs (program (writing Main 5 0xFFFE) 6 false))))) false suspendedWords
     ∷ row (held Ground (Recovering (recovery last 20))) false recoveringWords
     ∷ row (holding true Ground Idle) true sealedWords
-    ∷ row (held Ground (InOneTime Nothing)) false enteredWords
-    ∷ row (held Ground (InOneTime (Runs (program (writing OneTime 255 0x1234) 4 true)))) false oneTimeWords
-    ∷ row (held Ground (InOneTime (Runs (program (writing Main 256 0x1234) 4 true)))) false (set oneTimeWords 14 256)
-    ∷ row (held (Entering OtpLocking) (InOneTime Nothing)) false lockingWords
-    ∷ row (holding true (Reads OtpLock) (InOneTime Nothing)) false lockReadWords
+    ∷ row (held Ground InOneTime) false enteredWords
+    ∷ row (held Ground (OneTimeProgramming (program (writing OneTime 255 0x1234) 4 true))) false oneTimeWords
+    ∷ row (held Ground (OneTimeProgramming (program (writing Main 256 0x1234) 4 true))) false (set oneTimeWords 14 256)
+    ∷ row (held (Entering OtpLocking) InOneTime) false lockingWords
+    ∷ row (holding true (Reads OtpLock) InOneTime) false lockReadWords
     ∷ []
 
 pub images : map (λ (r : Row). imageOf (r .stands)) rows ≡ map (λ (r : Row). r .words) rows
-unfolding imageOf commandWords cycleWords readingWords operationParts suspendedParts enteredParts setOf pack
+unfolding imageOf commandWords cycleWords readingWords operationParts suspendedParts setOf pack
 images = refl
 
 pub stand-for : map (λ (r : Row). deviceOf (r .words)) rows ≡ map (λ (r : Row). r .stands) rows
-unfolding deviceOf commandOf cycleOf operationOf operationOutside operationNumbered insideNumbered setOf pack
+unfolding deviceOf commandOf cycleOf operationOf operationOutside operationNumbered operationInside setOf pack
 stand-for = refl
 
 pub stand : map (λ (r : Row). wellFormed (r .words)) rows ≡ replicate (length rows) true
@@ -176,7 +176,7 @@ module _ (e : Erase) (q : Program) where
   abbrev pub operations : List Operation
   operations =
       Idle ∷ Programming q ∷ ProgramSuspended q ∷ Window e ∷ Erasing e ∷ EraseSuspended (suspended e Nothing)
-      ∷ EraseSuspended (suspended e (Runs q)) ∷ ChipErasing e ∷ InOneTime Nothing ∷ InOneTime (Runs q) ∷ []
+      ∷ EraseSuspended (suspended e (Runs q)) ∷ ChipErasing e ∷ InOneTime ∷ OneTimeProgramming q ∷ []
 
 abbrev pub operationNumbers : List ℕ
 operationNumbers = 0 ∷ 1 ∷ 2 ∷ 3 ∷ 4 ∷ 5 ∷ 6 ∷ 7 ∷ 0 ∷ 1 ∷ []
@@ -190,7 +190,7 @@ unfolding commandWords cycleWords readingWords
 placed = refl
 
 pub operation-numbers : (e : Erase) (q : Program) → map (λ o. operationParts o .number) (operations e q) ≡ operationNumbers
-unfolding operationParts suspendedParts enteredParts
+unfolding operationParts suspendedParts
 operation-numbers e q = refl
 
 -- ---- words that stand for no record

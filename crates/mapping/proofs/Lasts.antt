@@ -15,17 +15,18 @@ use Rattle.plain.specs.declared.Erase.{Erase}
 use Rattle.plain.specs.declared.Inside.{Inside}
 use Rattle.plain.specs.declared.Inside.the-variants.{Nothing, Runs}
 use Rattle.plain.specs.declared.Operation.{Operation}
-use Rattle.plain.specs.declared.Operation.the-variants.{Idle, Programming, ProgramSuspended, Window, Erasing, Recovering, EraseSuspended, ChipErasing, InOneTime}
+use Rattle.plain.specs.declared.Operation.the-variants.{Idle, Programming, ProgramSuspended, Window, Erasing, Recovering, EraseSuspended, ChipErasing, InOneTime, OneTimeProgramming}
 use Rattle.plain.specs.declared.Command.{Command}
 use Rattle.plain.specs.declared.Command.the-variants.{Ground}
 use Rattle.plain.specs.declared.Seen.{Seen}
 use Rattle.plain.specs.Figures.{eraseTime}
 use Rattle.plain.specs.Lent.{Lent}
 use Rattle.plain.specs.Operations.{runningInside, runningOf, suspensionOf}
+use Rattle.plain.specs.Record.{suspended}
 use Rattle.plain.specs.Programs.{bankWritten}
 use Rattle.plain.specs.Sound.{operationSound}
 use Rattle.plain.specs.Status.{polls, polled, insidePolled, readingOn, rests, rested, look}
-use Rattle.plain.specs.Time.{Moment, last, onward, resting, insideTick, operationTick, tick, ticks}
+use Rattle.plain.specs.Time.{Moment, last, onward, insideTick, operationTick, tick, ticks}
 use Rattle.plain.proofs.Facts.{erasing}
 use Rattle.plain.proofs.SoundTime.{tick-fit}
 use Rattle.plain.proofs.Tools.{by-test, both, both-left, both-right, clash}
@@ -38,16 +39,10 @@ module _ (p : Part) (bank : ℕ) where
 
   -- ---- one microsecond, and n of them
 
-  inside-away : (e : Erase) (i : Inside) → Away (resting e i) → Away (insideTick (resting e) i)
+  inside-away : (e : Erase) (i : Inside) → Away (EraseSuspended (suspended e i)) → Away (insideTick e i)
   unfolding insideTick runningOf runningInside suspensionOf runsIn restsIn
   inside-away e Nothing h = h
   inside-away e (Runs q) h =
-      by-test Away (last (q .left)) (λ _. both-right (not (eqb bank (bankWritten p (q .writes)))) _ h) (λ _. h)
-
-  entered-away : (i : Inside) → Away (InOneTime i) → Away (insideTick InOneTime i)
-  unfolding insideTick runningOf runningInside suspensionOf runsIn restsIn
-  entered-away Nothing h = h
-  entered-away (Runs q) h =
       by-test Away (last (q .left)) (λ _. both-right (not (eqb bank (bankWritten p (q .writes)))) _ h) (λ _. h)
 
   -- a list lies in one bank
@@ -74,7 +69,9 @@ module _ (p : Part) (bank : ℕ) where
       by-test Away (last (r .left)) (λ _. both-left (not (eqb bank (bankOfBlock p (r .erase .hand)))) _ h) (λ _. h)
   tick-away bits (EraseSuspended s) _ h = inside-away (s .erase) (s .inside) h
   tick-away bits (ChipErasing e) s h = clash h refl
-  tick-away bits (InOneTime i) s h = entered-away i h
+  tick-away bits InOneTime s h = h
+  tick-away bits (OneTimeProgramming q) s h =
+      by-test Away (last (q .left)) (λ _. both-right (not (eqb bank (bankWritten p (q .writes)))) _ h) (λ _. h)
 
   ticks-away : (bits : Protection) (n : ℕ) (m : Moment) → operationSound p bits (m .operation) ≡ true → Away (m .operation)
       → Away (ticks p n m .operation)
@@ -85,15 +82,10 @@ module _ (p : Part) (bank : ℕ) where
 
   -- ---- what a read flips
 
-  inside-polled : (e : Erase) (i : Inside) → Away (resting e i) → Away (resting e (insidePolled i))
+  inside-polled : (e : Erase) (i : Inside) → Away (EraseSuspended (suspended e i)) → Away (EraseSuspended (suspended e (insidePolled i)))
   unfolding insidePolled runningOf runningInside suspensionOf runsIn restsIn
   inside-polled e Nothing h = h
   inside-polled e (Runs q) h = h
-
-  entered-polled : (i : Inside) → Away (InOneTime i) → Away (InOneTime (insidePolled i))
-  unfolding insidePolled runningOf runningInside suspensionOf runsIn restsIn
-  entered-polled Nothing h = h
-  entered-polled (Runs q) h = h
 
   polled-away : (o : Operation) (a : ℕ) → Away o → Away (polled p o a)
   unfolding polled runningOf suspensionOf runsIn restsIn
@@ -105,7 +97,8 @@ module _ (p : Part) (bank : ℕ) where
   polled-away (Recovering r) a h = h
   polled-away (EraseSuspended s) a h = inside-polled (s .erase) (s .inside) h
   polled-away (ChipErasing e) a h = h
-  polled-away (InOneTime i) a h = entered-polled i h
+  polled-away InOneTime a h = h
+  polled-away (OneTimeProgramming q) a h = h
 
   rested-away : (o : Operation) → Away o → Away (rested o)
   unfolding rested runningOf suspensionOf runsIn restsIn
@@ -117,7 +110,8 @@ module _ (p : Part) (bank : ℕ) where
   rested-away (Recovering r) h = h
   rested-away (EraseSuspended s) h = h
   rested-away (ChipErasing e) h = h
-  rested-away (InOneTime i) h = h
+  rested-away InOneTime h = h
+  rested-away (OneTimeProgramming q) h = h
 
   look-away : (bits : Protection) (c : Command) (o : Operation) (l : Lent) (a : ℕ) → Away o → Away (look p bits c o l a .operation)
   unfolding look

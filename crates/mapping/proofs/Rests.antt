@@ -13,7 +13,7 @@ use Rattle.protection.specs.declared.Protection.{Protection}
 use Rattle.plain.specs.declared.Array.the-variants.{Main}
 use Rattle.plain.specs.declared.Written.{Written}
 use Rattle.plain.specs.declared.Operation.{Operation}
-use Rattle.plain.specs.declared.Operation.the-variants.{Idle, Programming, ProgramSuspended, Window, Erasing, Recovering, EraseSuspended, ChipErasing, InOneTime}
+use Rattle.plain.specs.declared.Operation.the-variants.{Idle, Programming, ProgramSuspended, Window, Erasing, Recovering, EraseSuspended, ChipErasing, InOneTime, OneTimeProgramming}
 use Rattle.plain.specs.declared.Suspension.{Suspension}
 use Rattle.plain.specs.declared.Suspension.the-variants.{Unsuspended, OfProgram, OfErase, Entered}
 use Rattle.plain.specs.Figures.{eraseTime}
@@ -43,7 +43,8 @@ known p bits (Erasing e) s = tt
 known p bits (Recovering r) s = tt
 known p bits (EraseSuspended r) s = erase-suspended p bits r s
 known p bits (ChipErasing e) s = tt
-known p bits (InOneTime i) s = tt
+known p bits InOneTime s = tt
+known p bits (OneTimeProgramming q) s = tt
 
 -- a program's bank is that of its block
 pub written-bank : (p : Part) (d : Written) → bankWritten p d ≡ bankOfBlock p (blockWritten p d)

@@ -6,7 +6,6 @@ use geometry::Part;
 use plain::Command;
 use plain::Cycle;
 use plain::Effect;
-use plain::Inside;
 use plain::Operation;
 use plain::Reading;
 use plain::Suspension;
@@ -34,7 +33,7 @@ pub fn after_unlocked(
         return reset_or_sequence(suspension, word);
     }
     let suspended = is_suspended(suspension);
-    let enter = Effect::Starts(Operation::InOneTime(Inside::Nothing));
+    let enter = Effect::Starts(Operation::InOneTime);
     match word % 256 {
         0xa0 => unless(
             program_is_suspended(suspension),

@@ -1,7 +1,11 @@
 // What runs, is suspended or is entered, and its number, its erase, its program, the time left of its recovery and whether the one-time
 // block is entered.
 ghost use mathlib.Core.Path.{_≡_};
-ghost use Rattle.layout.specs.Operations.{noErase, noProgram, partsWith, parts, suspendedParts, enteredParts, operationParts, operationNumbered, operationOutside, insideNumbered, operationOf};
+ghost use Prim.Native.Nat.{_<_, _≤_};
+ghost use Rattle.plain.specs.declared.Program.{Program};
+ghost use Rattle.plain.specs.declared.Erase.{Erase};
+ghost use Rattle.plain.specs.declared.Operation.the-variants.{Idle};
+ghost use Rattle.layout.specs.Operations.{noErase, noProgram, parts, suspendedParts, enteredParts, operationParts, operationNumbered, operationOutside, operationInside};
 use blocks::Blocks;
 use layout::OperationParts;
 use plain::Array;
@@ -17,7 +21,7 @@ pub fn parts_of(operation: Operation) -> OperationParts
     ensures { λ r. ⌜ r ≡ operationParts operation ⌝ }
 {
     match operation {
-        Operation::Idle => parts(0, no_erase(), no_program()),
+        Operation::Idle => idle_parts(),
         Operation::Programming(program) => parts(1, no_erase(), program),
         Operation::ProgramSuspended(program) => parts(2, no_erase(), program),
         Operation::Window(erase) => parts(3, erase, no_program()),
@@ -37,8 +41,16 @@ pub fn parts_of(operation: Operation) -> OperationParts
             suspended_parts(suspended.erase, inside)
         }
         Operation::ChipErasing(erase) => parts(7, erase, no_program()),
-        Operation::InOneTime(inside) => entered_parts(inside),
+        Operation::InOneTime => entered_parts(0, no_program()),
+        Operation::OneTimeProgramming(program) => entered_parts(1, program),
     }
+}
+
+// Of a device where nothing runs, is suspended or is entered: a cut leaves it so.
+pub fn idle_parts() -> OperationParts
+    ensures { λ r. ⌜ r ≡ operationParts Idle ⌝ }
+{
+    parts(0, no_erase(), no_program())
 }
 
 fn suspended_parts(erase: Erase, inside: Inside) -> OperationParts
@@ -63,24 +75,15 @@ fn parts(number: u64, erase: Erase, program: Program) -> OperationParts
 }
 
 // In the one-time block: the numbers of nothing and of a program.
-fn entered_parts(inside: Inside) -> OperationParts
-    ensures { λ r. ⌜ r ≡ enteredParts inside ⌝ }
+fn entered_parts(number: u64, program: Program) -> OperationParts
+    ensures { λ r. ⌜ r ≡ enteredParts number program ⌝ }
 {
-    match inside {
-        Inside::Nothing => OperationParts {
-            number: 0,
-            erase: no_erase(),
-            program: no_program(),
-            recovery: 0,
-            entered: true,
-        },
-        Inside::Runs(program) => OperationParts {
-            number: 1,
-            erase: no_erase(),
-            program: program,
-            recovery: 0,
-            entered: true,
-        },
+    OperationParts {
+        number: number,
+        erase: no_erase(),
+        program: program,
+        recovery: 0,
+        entered: true,
     }
 }
 
@@ -108,72 +111,68 @@ fn no_program() -> Program
 {
     Program {
         writes: Written {
-            array: Array::Main,
             at: 0,
             word: 0,
+            array: Array::Main,
         },
         left: 0,
         dq6: false,
     }
 }
 
-pub fn operation_of(
-    number: u64,
-    erase: Erase,
-    program: Program,
-    recovery: u64,
-    entered: bool,
-) -> Operation
-    ensures { λ r. ⌜ r ≡ operationOf (partsWith number erase program recovery entered) ⌝ }
-{
-    if entered {
-        let inside = inside_numbered(number, program);
-        return Operation::InOneTime(inside);
-    }
-    operation_outside(number, erase, program, recovery)
-}
+// From a number on there is one function for each way that an operation lies in memory: one for several would take each apart by bytes.
 
 // In the one-time block: a program or nothing.
-fn inside_numbered(number: u64, program: Program) -> Inside
-    ensures { λ r. ⌜ r ≡ insideNumbered number program ⌝ }
+pub fn operation_inside(number: u64, program: Program) -> Operation
+    ensures { λ r. ⌜ r ≡ operationInside number program ⌝ }
 {
     if number == 1 {
-        return Inside::Runs(program);
+        return Operation::OneTimeProgramming(program);
     }
-    Inside::Nothing
+    Operation::InOneTime
 }
 
-// Outside: where time is left of a recovery, that.
-fn operation_outside(number: u64, erase: Erase, program: Program, recovery: u64) -> Operation
-    ensures { λ r. ⌜ r ≡ operationOutside number erase program recovery ⌝ }
-{
-    if recovery == 0 {
-        return operation_numbered(number, erase, program);
-    }
-    Operation::Recovering(Recovery {
-        erase: erase,
-        left: recovery,
-    })
-}
-
-// Of a number past 7, which no record has, it tells that nothing runs.
-fn operation_numbered(number: u64, erase: Erase, program: Program) -> Operation
-    ensures { λ r. ⌜ r ≡ operationNumbered number erase program ⌝ }
+// Outside, a program by itself or nothing.
+pub fn program_alone(number: u64, program: Program) -> Operation
+    requires { ⌜ number < 3 ⌝ }
+    ensures { λ r. ⌜ ((e : Erase) → r ≡ operationNumbered number e program) ⌝ }
 {
     match number {
         1 => Operation::Programming(program),
         2 => Operation::ProgramSuspended(program),
+        _ => Operation::Idle,
+    }
+}
+
+// Outside, an erase by itself: where time is left of a recovery, that. Of a number past 7, which no record has, nothing runs.
+pub fn erase_alone(number: u64, erase: Erase, recovery: u64) -> Operation
+    requires { ⌜ (recovery ≡ 0 → (3 ≤ number) × (number ≡ 6 → ⊥)) ⌝ }
+    ensures { λ r. ⌜ ((q : Program) → r ≡ operationOutside number erase q recovery) ⌝ }
+{
+    if recovery != 0 {
+        return Operation::Recovering(Recovery {
+            erase: erase,
+            left: recovery,
+        });
+    }
+    match number {
         3 => Operation::Window(erase),
         4 => Operation::Erasing(erase),
         5 => Operation::EraseSuspended(SuspendedErase {
             erase: erase,
             inside: Inside::Nothing,
         }),
-        6 => Operation::EraseSuspended(SuspendedErase {
-            erase: erase,
-            inside: Inside::Runs(program),
-        }),
         7 => Operation::ChipErasing(erase),
         _ => Operation::Idle,
     }
+}
+
+// Outside, a program inside a suspended erase.
+pub fn program_and_erase(erase: Erase, program: Program) -> Operation
+    ensures { λ r. ⌜ r ≡ operationNumbered 6 erase program ⌝ }
+{
+    Operation::EraseSuspended(SuspendedErase {
+        erase: erase,
+        inside: Inside::Runs(program),
+    })
 }

@@ -1,5 +1,8 @@
 // An operation by the two questions that most rules ask of it: what of it runs, and what stands while nothing does.
 ghost use mathlib.Core.Path.{_≡_};
+ghost use mathlib.Core.Bool.{true};
+ghost use Rattle.plain.specs.declared.Operation.the-variants.{Idle};
+ghost use Rattle.plain.specs.Sound.{isStill};
 ghost use Rattle.plain.specs.Operations.{runningInside, runningOf, suspensionOf, isEntered, selected};
 use plain::Array;
 use plain::Inside;
@@ -23,7 +26,8 @@ pub fn running_of(operation: Operation) -> Running
             running_inside(inside)
         }
         Operation::ChipErasing(erase) => Running::ErasesChip(erase),
-        Operation::InOneTime(inside) => running_inside(inside),
+        Operation::InOneTime => Running::Still,
+        Operation::OneTimeProgramming(program) => Running::Programs(program),
     }
 }
 
@@ -34,6 +38,54 @@ fn running_inside(inside: Inside) -> Running
     match inside {
         Inside::Nothing => Running::Still,
         Inside::Runs(program) => Running::Programs(program),
+    }
+}
+
+// Only where it is so is it told that nothing is under way, suspended or entered: a short way for most records.
+pub fn is_idle(operation: Operation) -> bool
+    ensures { λ r. ⌜ (r ≡ true → operation ≡ Idle) ⌝ }
+{
+    match operation {
+        Operation::Idle => true,
+        Operation::Programming(_) => false,
+        Operation::ProgramSuspended(_) => false,
+        Operation::Window(_) => false,
+        Operation::Erasing(_) => false,
+        Operation::Recovering(_) => false,
+        Operation::EraseSuspended(_) => false,
+        Operation::ChipErasing(_) => false,
+        Operation::InOneTime => false,
+        Operation::OneTimeProgramming(_) => false,
+    }
+}
+
+// What runs, as a yes or no, which most events ask first: it copies nothing.
+pub fn is_still(operation: Operation) -> bool
+    ensures { λ r. ⌜ r ≡ isStill (runningOf operation) ⌝ }
+{
+    match operation {
+        Operation::Idle => true,
+        Operation::Programming(_) => false,
+        Operation::ProgramSuspended(_) => true,
+        Operation::Window(_) => false,
+        Operation::Erasing(_) => false,
+        Operation::Recovering(_) => false,
+        Operation::EraseSuspended(suspended) => {
+            let inside = suspended.inside;
+            is_nothing(inside)
+        }
+        Operation::ChipErasing(_) => false,
+        Operation::InOneTime => true,
+        Operation::OneTimeProgramming(_) => false,
+    }
+}
+
+fn is_nothing(inside: Inside) -> bool
+    ensures { λ r. ⌜ r ≡ isStill (runningInside inside) ⌝ }
+{
+    match inside {
+        Inside::Nothing => true,
+        Inside::Runs(_) => false,
     }
 }
 
@@ -53,7 +105,8 @@ pub fn suspension_of(operation: Operation) -> Suspension
             Suspension::OfErase(erase)
         }
         Operation::ChipErasing(_) => Suspension::Unsuspended,
-        Operation::InOneTime(_) => Suspension::Entered,
+        Operation::InOneTime => Suspension::Entered,
+        Operation::OneTimeProgramming(_) => Suspension::Entered,
     }
 }
 

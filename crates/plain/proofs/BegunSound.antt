@@ -12,7 +12,7 @@ use Rattle.plain.specs.declared.Inside.{Inside}
 use Rattle.plain.specs.declared.Inside.the-variants.{Nothing, Runs}
 use Rattle.plain.specs.declared.SuspendedErase.{SuspendedErase}
 use Rattle.plain.specs.declared.Operation.{Operation}
-use Rattle.plain.specs.declared.Operation.the-variants.{Idle, Programming, ProgramSuspended, Window, Erasing, Recovering, EraseSuspended, ChipErasing, InOneTime}
+use Rattle.plain.specs.declared.Operation.the-variants.{Idle, Programming, ProgramSuspended, Window, Erasing, Recovering, EraseSuspended, ChipErasing, InOneTime, OneTimeProgramming}
 use Rattle.plain.specs.declared.Suspension.{Suspension}
 use Rattle.plain.specs.declared.BegunProgram.{BegunProgram}
 use Rattle.plain.specs.declared.BegunProgram.the-variants.{Writes}
@@ -22,7 +22,7 @@ use Rattle.plain.specs.Sound.{operationSound}
 use Rattle.plain.specs.Cut.{begun, programBegun, begunInside, begunProgram}
 use Rattle.plain.proofs.Tools.{by-test}
 use Rattle.plain.proofs.CutCells.{Lies, no-program}
-use Rattle.plain.proofs.Facts.{ProgramFacts, programming, program-suspended, inside-runs, entered-runs}
+use Rattle.plain.proofs.Facts.{ProgramFacts, programming, program-suspended, inside-runs, one-time-programming}
 
 pub record Begins (p : Part) (q : Program) (d : Written) : Type 0 where
   pub time : 0 < programTime p - q .left
@@ -46,11 +46,6 @@ module _ (p : Part) (bits : Protection) where
   inside-free x Nothing t s d e = no-program e
   inside-free x (Runs q) t s d e = free-of _ q d (inside-runs p bits x q s t .program) e
 
-  entered-free : (i : Inside) → operationSound p bits (InOneTime i) ≡ true → (d : Written) → begunInside p i ≡ Writes d → ProgramFree d
-  unfolding begunInside
-  entered-free Nothing s d e = no-program e
-  entered-free (Runs q) s d e = free-of _ q d (entered-runs p bits q s) e
-
   pub program-free : (o : Operation) → operationSound p bits o ≡ true → (d : Written) → begunProgram p o ≡ Writes d → ProgramFree d
   unfolding begunProgram
   program-free Idle s d e = no-program e
@@ -61,7 +56,8 @@ module _ (p : Part) (bits : Protection) where
   program-free (Recovering x) s d e = no-program e
   program-free (EraseSuspended x) s d e = inside-free x (x .inside) refl s d e
   program-free (ChipErasing x) s d e = no-program e
-  program-free (InOneTime i) s d e = entered-free i s d e
+  program-free InOneTime s d e = no-program e
+  program-free (OneTimeProgramming q) s d e = free-of _ q d (one-time-programming p bits q s) e
 
   pub begun-lies : (o : Operation) → operationSound p bits o ≡ true → Lies p (begunProgram p o)
   begun-lies o s = record { lies = λ d e. program-free o s d e .lies }

@@ -4,7 +4,7 @@ use lib.Dec.{lit<}
 use Rattle.plain.specs.declared.Inside.{Inside}
 use Rattle.plain.specs.declared.Inside.the-variants.{Nothing, Runs}
 use Rattle.plain.specs.declared.Operation.{Operation}
-use Rattle.plain.specs.declared.Operation.the-variants.{Idle, Programming, ProgramSuspended, Window, Erasing, Recovering, EraseSuspended, ChipErasing, InOneTime}
+use Rattle.plain.specs.declared.Operation.the-variants.{Idle, Programming, ProgramSuspended, Window, Erasing, Recovering, EraseSuspended, ChipErasing, InOneTime, OneTimeProgramming}
 use Rattle.plain.proofs.Lasting.{Lasting}
 
 unfoldable pub insideData : Inside → ℕ
@@ -21,7 +21,8 @@ dataOf (Erasing e) = 0
 dataOf (Recovering r) = 0
 dataOf (EraseSuspended s) = insideData (s .inside)
 dataOf (ChipErasing e) = 0
-dataOf (InOneTime i) = insideData i
+dataOf InOneTime = 0
+dataOf (OneTimeProgramming q) = q .writes .word
 
 -- the time left of a recovery; 1 where there is none
 unfoldable pub recoveryLeft : Operation → ℕ
@@ -33,7 +34,8 @@ recoveryLeft (Erasing e) = 1
 recoveryLeft (Recovering r) = r .left
 recoveryLeft (EraseSuspended s) = 1
 recoveryLeft (ChipErasing e) = 1
-recoveryLeft (InOneTime i) = 1
+recoveryLeft InOneTime = 1
+recoveryLeft (OneTimeProgramming q) = 1
 
 abbrev pub Short : Operation → Type 0
 Short o = (dataOf o < 65536) × (0 < recoveryLeft o)
@@ -51,5 +53,5 @@ short-lasts =
       programming = λ q l h. h;
       inside = λ e q l h. h;
       entered = (lit< tt, lit< tt);
-      programming-entered = λ q l h. h;
+      one-time = λ q l h. h;
     }

@@ -13,7 +13,7 @@ use Rattle.plain.specs.declared.Inside.{Inside}
 use Rattle.plain.specs.declared.Inside.the-variants.{Nothing, Runs}
 use Rattle.plain.specs.declared.SuspendedErase.{SuspendedErase}
 use Rattle.plain.specs.declared.Operation.{Operation}
-use Rattle.plain.specs.declared.Operation.the-variants.{Idle, Programming, ProgramSuspended, Window, Erasing, Recovering, EraseSuspended, ChipErasing, InOneTime}
+use Rattle.plain.specs.declared.Operation.the-variants.{Idle, Programming, ProgramSuspended, Window, Erasing, Recovering, EraseSuspended, ChipErasing, InOneTime, OneTimeProgramming}
 use Rattle.plain.specs.Operations.{runningOf, runningInside}
 use Rattle.plain.specs.Ends.{endsProtected, someEndProtected, NeverEndsProtected}
 use Rattle.plain.specs.Unmade.{Met}
@@ -21,7 +21,7 @@ use Rattle.plain.specs.Machine.{now}
 use Rattle.plain.specs.Programs.{barred}
 use Rattle.plain.specs.Sound.{erasable, operationSound}
 use Rattle.plain.specs.Time.{Moment, last, insideTick, operationTick, tick}
-use Rattle.plain.proofs.Facts.{sound-operation, EraseFacts, programming, erasing, chip-erasing, inside-runs, entered-runs}
+use Rattle.plain.proofs.Facts.{sound-operation, EraseFacts, programming, erasing, chip-erasing, inside-runs, one-time-programming}
 use Rattle.plain.proofs.SoundTime.{tick-fit}
 
 -- what may be listed is not protected
@@ -37,11 +37,6 @@ module _ (p : Part) (bits : Protection) where
   inside-free s Nothing d h = refl
   inside-free s (Runs q) d h = rw (inside-runs p bits s q h d .program .free) (and-false (last (q .left)))
 
-  entered-free : (i : Inside) → operationSound p bits (InOneTime i) ≡ true → endsProtected p bits (runningInside i) ≡ false
-  unfolding runningInside endsProtected
-  entered-free Nothing h = refl
-  entered-free (Runs q) h = rw (entered-runs p bits q h .free) (and-false (last (q .left)))
-
   ends-free : (o : Operation) → operationSound p bits o ≡ true → endsProtected p bits (runningOf o) ≡ false
   unfolding endsProtected runningOf
   ends-free Idle s = refl
@@ -52,7 +47,8 @@ module _ (p : Part) (bits : Protection) where
   ends-free (Recovering r) s = refl
   ends-free (EraseSuspended x) s = inside-free x (x .inside) refl s
   ends-free (ChipErasing e) s = hand-free e _ (chip-erasing p bits e s)
-  ends-free (InOneTime i) s = entered-free i s
+  ends-free InOneTime s = refl
+  ends-free (OneTimeProgramming q) s = rw (one-time-programming p bits q s .free) (and-false (last (q .left)))
 
   none-ends : (n : ℕ) (m : Moment) → operationSound p bits (m .operation) ≡ true → someEndProtected p bits n m ≡ false
   unfolding someEndProtected tick

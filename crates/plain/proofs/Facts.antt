@@ -20,13 +20,13 @@ use Rattle.plain.specs.declared.Inside.the-variants.{Runs}
 use Rattle.plain.specs.declared.Suspension.{Suspension}
 use Rattle.plain.specs.declared.Suspension.the-variants.{Unsuspended, OfErase, Entered}
 use Rattle.plain.specs.declared.Operation.{Operation}
-use Rattle.plain.specs.declared.Operation.the-variants.{Programming, ProgramSuspended, Window, Erasing, Recovering, EraseSuspended, ChipErasing, InOneTime}
+use Rattle.plain.specs.declared.Operation.the-variants.{Programming, ProgramSuspended, Window, Erasing, Recovering, EraseSuspended, ChipErasing, OneTimeProgramming}
 use Rattle.plain.specs.declared.Device.{Device}
 use Rattle.plain.specs.Figures.{programTime, windowTime, eraseTime, recoveryTime, chipTime, runningCurrent, clockLimit}
 use Rattle.plain.specs.Operations.{runningOf, suspensionOf}
 use Rattle.plain.specs.Programs.{liesIn, blockWritten, barred}
 use Rattle.plain.specs.Record.{fresh}
-use Rattle.plain.specs.Sound.{meterSound, timeSound, arraySound, programSound, erasable, mayErase, mayChipErase, listSound, chipListSound, lowest, insideSound, enteredSound, operationSound, isStill, stillCommand, commandSound, sound}
+use Rattle.plain.specs.Sound.{meterSound, timeSound, arraySound, programSound, erasable, mayErase, mayChipErase, listSound, chipListSound, lowest, insideSound, operationSound, isStill, stillCommand, commandSound, sound}
 use Rattle.plain.specs.SuspendedProgram.{SuspendedStaysSound}
 use Rattle.plain.proofs.Tools.{both-left, both-right, clash}
 use Rattle.plain.proofs.Lists.{only-at}
@@ -216,6 +216,6 @@ inside-runs p bits s q h told =
 
 -- ---- a program in the one-time block
 
-pub entered-runs : (p : Part) (bits : Protection) (q : Program) → operationSound p bits (InOneTime (Runs q)) ≡ true → ProgramFacts p bits Entered q
-unfolding operationSound enteredSound
-entered-runs p bits = program-facts p bits Entered
+pub one-time-programming : (p : Part) (bits : Protection) (q : Program) → operationSound p bits (OneTimeProgramming q) ≡ true → ProgramFacts p bits Entered q
+unfolding operationSound
+one-time-programming p bits = program-facts p bits Entered

@@ -15,13 +15,13 @@ use Rattle.plain.specs.declared.Erase.{Erase}
 use Rattle.plain.specs.declared.Inside.the-variants.{Nothing, Runs}
 use Rattle.plain.specs.declared.Recovery.{Recovery}
 use Rattle.plain.specs.declared.Operation.{Operation}
-use Rattle.plain.specs.declared.Operation.the-variants.{Idle, Programming, Window, Erasing, Recovering, EraseSuspended, ChipErasing, InOneTime}
+use Rattle.plain.specs.declared.Operation.the-variants.{Idle, Programming, Window, Erasing, Recovering, EraseSuspended, ChipErasing, InOneTime, OneTimeProgramming}
 use Rattle.plain.specs.declared.Suspension.{Suspension}
 use Rattle.plain.specs.declared.Suspension.the-variants.{Unsuspended, Entered}
 use Rattle.plain.specs.declared.Command.{Command}
 use Rattle.plain.specs.Figures.{programTime, windowTime, eraseTime, recoveryTime, chipTime, runningCurrent, clockLimit}
 use Rattle.plain.specs.Record.{device, suspended}
-use Rattle.plain.specs.Sound.{meterSound, timeSound, programSound, mayErase, mayChipErase, listSound, chipListSound, lowest, insideSound, enteredSound, operationSound, commandSound, sound}
+use Rattle.plain.specs.Sound.{meterSound, timeSound, programSound, mayErase, mayChipErase, listSound, chipListSound, lowest, insideSound, operationSound, commandSound, sound}
 use Rattle.plain.proofs.Tools.{both}
 use Rattle.plain.proofs.Lists.{only-make}
 use Rattle.plain.proofs.Facts.{ProgramFacts, EraseFacts, BlockEraseFacts, RecoveryFacts, InsideFacts}
@@ -68,13 +68,13 @@ module _ (p : Part) (bits : Protection) where
   unfolding operationSound
   programming-holds = program-holds Unsuspended
 
-  pub entered-holds : operationSound p bits (InOneTime Nothing) ≡ true
-  unfolding operationSound enteredSound
+  pub entered-holds : operationSound p bits InOneTime ≡ true
+  unfolding operationSound
   entered-holds = refl
 
-  pub programming-entered-holds : (q : Program) → ProgramFacts p bits Entered q → operationSound p bits (InOneTime (Runs q)) ≡ true
-  unfolding operationSound enteredSound
-  programming-entered-holds = program-holds Entered
+  pub one-time-holds : (q : Program) → ProgramFacts p bits Entered q → operationSound p bits (OneTimeProgramming q) ≡ true
+  unfolding operationSound
+  one-time-holds = program-holds Entered
 
   pub window-holds : (e : Erase) → BlockEraseFacts p bits e (windowTime p) → ((b : ℕ) → b < e .hand → has (e .list) b ≡ false) → operationSound p bits (Window e) ≡ true
   unfolding operationSound lowest

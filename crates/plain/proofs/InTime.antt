@@ -8,7 +8,7 @@ use Rattle.plain.specs.declared.Program.{Program}
 use Rattle.plain.specs.declared.Erase.{Erase}
 use Rattle.plain.specs.declared.Inside.the-variants.{Nothing, Runs}
 use Rattle.plain.specs.declared.Operation.{Operation}
-use Rattle.plain.specs.declared.Operation.the-variants.{Idle, Programming, ProgramSuspended, Window, Erasing, Recovering, EraseSuspended, ChipErasing, InOneTime}
+use Rattle.plain.specs.declared.Operation.the-variants.{Idle, Programming, ProgramSuspended, Window, Erasing, Recovering, EraseSuspended, ChipErasing, InOneTime, OneTimeProgramming}
 use Rattle.plain.specs.Figures.{eraseTime, chipTime, runningCurrent, standbyCurrent}
 use Rattle.plain.specs.Operations.{runningOf, runningInside}
 use Rattle.plain.specs.Programs.{finished}
@@ -30,8 +30,8 @@ pub erase-still : (p : Part) (e : Erase) → Still p (EraseSuspended (suspended 
 unfolding runningOf runningInside current operationTick insideTick lentTick
 erase-still p e = record { draws = refl; stays = refl; keeps = λ l. refl }
 
-pub entered-still : (p : Part) → Still p (InOneTime Nothing) (standbyCurrent p)
-unfolding runningOf runningInside current operationTick insideTick lentTick
+pub entered-still : (p : Part) → Still p InOneTime (standbyCurrent p)
+unfolding runningOf current operationTick lentTick
 entered-still p = record { draws = refl; stays = refl; keeps = λ l. refl }
 
 -- ---- running
@@ -60,10 +60,10 @@ inside-running p e q =
       finishes = λ l. refl;
     }
 
-pub entered-running : (p : Part) (q : Program)
-    → Running p (λ l. InOneTime (Runs (programLeft q l))) (runningCurrent p) (InOneTime Nothing) (finished (q .writes))
-unfolding runningOf runningInside current operationTick insideTick lentTick
-entered-running p q =
+pub one-time-running : (p : Part) (q : Program)
+    → Running p (λ l. OneTimeProgramming (programLeft q l)) (runningCurrent p) InOneTime (finished (q .writes))
+unfolding runningOf current operationTick lentTick
+one-time-running p q =
     record {
       draws = λ n. refl;
       steps = λ n h. rw (lt-leb n 1 h);

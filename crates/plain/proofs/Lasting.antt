@@ -11,10 +11,10 @@ use Rattle.plain.specs.declared.Erase.{Erase}
 use Rattle.plain.specs.declared.Inside.{Inside}
 use Rattle.plain.specs.declared.Inside.the-variants.{Nothing, Runs}
 use Rattle.plain.specs.declared.Operation.{Operation}
-use Rattle.plain.specs.declared.Operation.the-variants.{Idle, Programming, ProgramSuspended, Window, Erasing, Recovering, EraseSuspended, ChipErasing, InOneTime}
+use Rattle.plain.specs.declared.Operation.the-variants.{Idle, Programming, ProgramSuspended, Window, Erasing, Recovering, EraseSuspended, ChipErasing, InOneTime, OneTimeProgramming}
 use Rattle.plain.specs.Figures.{eraseTime, chipTime}
 use Rattle.plain.specs.Record.{programLeft, suspended, recovery}
-use Rattle.plain.specs.Time.{Moment, last, onward, resting, insideTick, operationTick, tick, ticks}
+use Rattle.plain.specs.Time.{Moment, last, onward, insideTick, operationTick, tick, ticks}
 use Rattle.plain.proofs.Tools.{by-test}
 
 -- erases have it, a recovery while it has time left, and a program keeps it with another time left
@@ -27,15 +27,14 @@ pub record Lasting (P : Operation → Type 0) : Type 0 where
   pub resting : (e : Erase) → P (EraseSuspended (suspended e Nothing))
   pub programming : (q : Program) (left : ℕ) → P (Programming q) → P (Programming (programLeft q left))
   pub inside : (e : Erase) (q : Program) (left : ℕ) → P (EraseSuspended (suspended e (Runs q))) → P (EraseSuspended (suspended e (Runs (programLeft q left))))
-  pub entered : P (InOneTime Nothing)
-  pub programming-entered : (q : Program) (left : ℕ) → P (InOneTime (Runs q)) → P (InOneTime (Runs (programLeft q left)))
+  pub entered : P InOneTime
+  pub one-time : (q : Program) (left : ℕ) → P (OneTimeProgramming q) → P (OneTimeProgramming (programLeft q left))
 
 module _ (p : Part) (P : Operation → Type 0) (k : Lasting P) where
-  inside-lasts : (around : Inside → Operation) → P (around Nothing) → ((q : Program) (left : ℕ) → P (around (Runs q)) → P (around (Runs (programLeft q left))))
-      → (i : Inside) → P (around i) → P (insideTick around i)
+  inside-lasts : (e : Erase) (i : Inside) → P (EraseSuspended (suspended e i)) → P (insideTick e i)
   unfolding insideTick
-  inside-lasts around none less Nothing h = h
-  inside-lasts around none less (Runs q) h = by-test P (last (q .left)) (λ _. none) (λ _. less q (q .left - 1) h)
+  inside-lasts e Nothing h = h
+  inside-lasts e (Runs q) h = by-test P (last (q .left)) (λ _. k .resting e) (λ _. k .inside e q (q .left - 1) h)
 
   onward-lasts : (again : Erase → Operation) (full : ℕ) (e : Erase) → ((x : Erase) → P (again x)) → P (onward p again full e)
   onward-lasts again full e f = by-test P (ltb (firstFrom (e .list) (suc (e .hand))) (blockCount p)) (λ _. f _) (λ _. k .idle)
@@ -48,9 +47,10 @@ module _ (p : Part) (P : Operation → Type 0) (k : Lasting P) where
   tick-lasts (Window e) h = by-test P (last (e .left)) (λ _. k .erasing _) (λ _. k .window _)
   tick-lasts (Erasing e) h = by-test P (last (e .left)) (λ _. onward-lasts Erasing (eraseTime p) e (k .erasing)) (λ _. k .erasing _)
   tick-lasts (Recovering r) h = by-test P (last (r .left)) (λ _. k .resting (r .erase)) (λ t. k .recovering (r .erase) (r .left - 1) (omega (arith, leb-false (r .left) 1 t)))
-  tick-lasts (EraseSuspended s) h = inside-lasts (resting (s .erase)) (k .resting (s .erase)) (k .inside (s .erase)) (s .inside) h
+  tick-lasts (EraseSuspended s) h = inside-lasts (s .erase) (s .inside) h
   tick-lasts (ChipErasing e) h = by-test P (last (e .left)) (λ _. onward-lasts ChipErasing (chipTime p) e (k .chip-erasing)) (λ _. k .chip-erasing _)
-  tick-lasts (InOneTime i) h = inside-lasts InOneTime (k .entered) (k .programming-entered) i h
+  tick-lasts InOneTime h = h
+  tick-lasts (OneTimeProgramming q) h = by-test P (last (q .left)) (λ _. k .entered) (λ _. k .one-time q (q .left - 1) h)
 
   pub ticks-last : (n : ℕ) (m : Moment) → P (m .operation) → P (ticks p n m .operation)
   unfolding ticks tick

@@ -11,13 +11,13 @@ use Rattle.plain.specs.declared.Erase.{Erase}
 use Rattle.plain.specs.declared.Inside.{Inside}
 use Rattle.plain.specs.declared.Inside.the-variants.{Nothing, Runs}
 use Rattle.plain.specs.declared.Operation.{Operation}
-use Rattle.plain.specs.declared.Operation.the-variants.{Idle, Programming, ProgramSuspended, Window, Erasing, Recovering, EraseSuspended, ChipErasing, InOneTime}
+use Rattle.plain.specs.declared.Operation.the-variants.{Idle, Programming, ProgramSuspended, Window, Erasing, Recovering, EraseSuspended, ChipErasing, InOneTime, OneTimeProgramming}
 use Rattle.plain.specs.Lent.{Lent}
 use Rattle.plain.specs.Operations.{runningOf, runningInside}
 use Rattle.plain.specs.Record.{programLeft, eraseLeft, suspended, recovery}
 use Rattle.plain.specs.Time.{Moment, moment, current, tick, ticks}
 use Rattle.plain.proofs.Ticks.{ticks-add, drawn, still, drift}
-use Rattle.plain.proofs.InTime.{idle-still, program-still, erase-still, entered-still, program-running, inside-running, entered-running, window-running, erase-running, recovery-running}
+use Rattle.plain.proofs.InTime.{idle-still, program-still, erase-still, entered-still, program-running, inside-running, one-time-running, window-running, erase-running, recovery-running}
 
 -- ---- when the next thing happens
 
@@ -38,7 +38,8 @@ dueOf (Erasing e) = due (e .left)
 dueOf (Recovering r) = due (r .left)
 dueOf (EraseSuspended s) = insideDue (s .inside)
 dueOf (ChipErasing e) = due (e .left)
-dueOf (InOneTime i) = insideDue i
+dueOf InOneTime = never
+dueOf (OneTimeProgramming q) = due (q .left)
 
 -- the operation with k microseconds less to go
 unfoldable pub insideLess : Inside → ℕ → Inside
@@ -54,7 +55,8 @@ less (Erasing e) k = Erasing (eraseLeft e (e .left - k))
 less (Recovering r) k = Recovering (recovery (r .erase) (r .left - k))
 less (EraseSuspended s) k = EraseSuspended (suspended (s .erase) (insideLess (s .inside) k))
 less (ChipErasing e) k = ChipErasing (eraseLeft e (e .left - k))
-less (InOneTime i) k = InOneTime (insideLess i k)
+less InOneTime k = InOneTime
+less (OneTimeProgramming q) k = OneTimeProgramming (programLeft q (q .left - k))
 
 -- k microseconds in which nothing happens
 unfoldable pub drifted : Part → ℕ → Moment → Moment
@@ -66,12 +68,6 @@ unfolding insideDue drifted runningOf runningInside current less insideLess
 inside-never p e Nothing d n m cells = still p (EraseSuspended (suspended e Nothing)) _ (erase-still p e) n m cells
 inside-never p e (Runs q) d n m cells = let z : _≡_ {A = ℕ} 0 1 = cc in absurd (omega arith)
 
-entered-never : (p : Part) (i : Inside) → insideDue i ≡ never → (n : ℕ) (m : Meter) (cells : Lent)
-    → ticks p n (moment m (InOneTime i) cells) ≡ drifted p n (moment m (InOneTime i) cells)
-unfolding insideDue drifted runningOf runningInside current less insideLess
-entered-never p Nothing d n m cells = still p (InOneTime Nothing) _ (entered-still p) n m cells
-entered-never p (Runs q) d n m cells = let z : _≡_ {A = ℕ} 0 1 = cc in absurd (omega arith)
-
 drift-never : (p : Part) (o : Operation) → dueOf o ≡ never → (n : ℕ) (m : Meter) (cells : Lent) → ticks p n (moment m o cells) ≡ drifted p n (moment m o cells)
 unfolding dueOf drifted runningOf current less
 drift-never p Idle d n m cells = still p Idle _ (idle-still p) n m cells
@@ -82,7 +78,8 @@ drift-never p (Erasing e) d n m cells = let z : _≡_ {A = ℕ} 0 1 = cc in absu
 drift-never p (Recovering r) d n m cells = let z : _≡_ {A = ℕ} 0 1 = cc in absurd (omega arith)
 drift-never p (EraseSuspended s) d n m cells = inside-never p (s .erase) (s .inside) d n m cells
 drift-never p (ChipErasing e) d n m cells = let z : _≡_ {A = ℕ} 0 1 = cc in absurd (omega arith)
-drift-never p (InOneTime i) d n m cells = entered-never p i d n m cells
+drift-never p InOneTime d n m cells = still p InOneTime _ (entered-still p) n m cells
+drift-never p (OneTimeProgramming q) d n m cells = let z : _≡_ {A = ℕ} 0 1 = cc in absurd (omega arith)
 
 inside-due : (p : Part) (e : Erase) (i : Inside) (l : ℕ) → insideDue i ≡ due l → (n : ℕ) → n < l → (m : Meter) (cells : Lent)
     → ticks p n (moment m (EraseSuspended (suspended e i)) cells) ≡ drifted p n (moment m (EraseSuspended (suspended e i)) cells)
@@ -91,14 +88,6 @@ inside-due p e Nothing l d n h m cells = let z : _≡_ {A = ℕ} 0 1 = cc in abs
 inside-due p e (Runs q) l d n h m cells =
     let i : q .left ≡ l = cc in
     drift p _ _ _ _ (inside-running p e q) n (q .left) m cells (omega arith)
-
-entered-due : (p : Part) (i : Inside) (l : ℕ) → insideDue i ≡ due l → (n : ℕ) → n < l → (m : Meter) (cells : Lent)
-    → ticks p n (moment m (InOneTime i) cells) ≡ drifted p n (moment m (InOneTime i) cells)
-unfolding insideDue drifted runningOf runningInside current less insideLess
-entered-due p Nothing l d n h m cells = let z : _≡_ {A = ℕ} 0 1 = cc in absurd (omega arith)
-entered-due p (Runs q) l d n h m cells =
-    let i : q .left ≡ l = cc in
-    drift p _ _ _ _ (entered-running p q) n (q .left) m cells (omega arith)
 
 drift-due : (p : Part) (o : Operation) (l : ℕ) → dueOf o ≡ due l → (n : ℕ) → n < l → (m : Meter) (cells : Lent)
     → ticks p n (moment m o cells) ≡ drifted p n (moment m o cells)
@@ -121,7 +110,10 @@ drift-due p (EraseSuspended s) l d n h m cells = inside-due p (s .erase) (s .ins
 drift-due p (ChipErasing e) l d n h m cells =
     let i : e .left ≡ l = cc in
     drift p _ _ _ _ (erase-running p true e) n (e .left) m cells (omega arith)
-drift-due p (InOneTime i) l d n h m cells = entered-due p i l d n h m cells
+drift-due p InOneTime l d n h m cells = let z : _≡_ {A = ℕ} 0 1 = cc in absurd (omega arith)
+drift-due p (OneTimeProgramming q) l d n h m cells =
+    let i : q .left ≡ l = cc in
+    drift p _ _ _ _ (one-time-running p q) n (q .left) m cells (omega arith)
 
 -- ---- leaps, as many as there is fuel for; the rest by microseconds
 

@@ -1,6 +1,6 @@
 -- An operation is modest over what is lent if its program asks for no 1 where the lent word has a 0: time keeps it so.
 use Prim.Native.Nat.{ℕ, zero, suc, _-_}
-use mathlib.Core.Path.{_≡_, refl, _∙_}
+use mathlib.Core.Path.{_≡_, refl}
 use mathlib.Core.Bool.{Bool, false}
 use lib.Dec.{ltb}
 use Rattle.blocks.specs.Blocks.{firstFrom}
@@ -10,14 +10,14 @@ use Rattle.plain.specs.declared.Erase.{Erase}
 use Rattle.plain.specs.declared.Inside.{Inside}
 use Rattle.plain.specs.declared.Inside.the-variants.{Nothing, Runs}
 use Rattle.plain.specs.declared.Operation.{Operation}
-use Rattle.plain.specs.declared.Operation.the-variants.{Idle, Programming, ProgramSuspended, Window, Erasing, Recovering, EraseSuspended, ChipErasing, InOneTime}
+use Rattle.plain.specs.declared.Operation.the-variants.{Idle, Programming, ProgramSuspended, Window, Erasing, Recovering, EraseSuspended, ChipErasing, InOneTime, OneTimeProgramming}
 use Rattle.plain.specs.Choice.{if_then_else_}
 use Rattle.plain.specs.Figures.{eraseTime, chipTime}
 use Rattle.plain.specs.Lent.{Lent}
 use Rattle.plain.specs.Operations.{runningInside, runningOf}
-use Rattle.plain.specs.Programs.{raises, finished}
-use Rattle.plain.specs.Record.{programLeft, eraseLeft}
-use Rattle.plain.specs.Time.{Moment, last, onward, resting, insideTick, operationTick, lentTick, tick, ticks}
+use Rattle.plain.specs.Programs.{raises}
+use Rattle.plain.specs.Record.{eraseLeft}
+use Rattle.plain.specs.Time.{Moment, last, onward, insideTick, operationTick, lentTick, tick, ticks}
 use Rattle.plain.proofs.Tools.{by-test, by-cases}
 
 unfoldable pub raisesInside : Lent → Inside → Bool
@@ -33,7 +33,8 @@ raisesIn l (Erasing e) = false
 raisesIn l (Recovering r) = false
 raisesIn l (EraseSuspended s) = raisesInside l (s .inside)
 raisesIn l (ChipErasing e) = false
-raisesIn l (InOneTime i) = raisesInside l i
+raisesIn l InOneTime = false
+raisesIn l (OneTimeProgramming q) = raises (q .writes) l
 
 abbrev pub Modest : Lent → Operation → Type 0
 Modest l o = raisesIn l o ≡ false
@@ -46,11 +47,10 @@ module _ (p : Part) where
       by-test (Modest l) (last (e .left)) (λ _. by-test (Modest l) (ltb (firstFrom (e .list) (suc (e .hand))) (blockCount p)) (λ _. f _) (λ _. refl)) (λ _. f _)
 
   -- before its last microsecond nothing that is lent changes, and then it ends
-  inside-modest : (around : Inside → Operation) → ((m : Lent) (i : Inside) → raisesIn m (around i) ≡ raisesInside m i)
-      → (i : Inside) (l : Lent) → raisesInside l i ≡ false → Modest (lentTick p (runningInside i) l) (insideTick around i)
-  unfolding raisesInside runningInside insideTick lentTick
-  inside-modest around same Nothing l h = same l Nothing
-  inside-modest around same (Runs q) l h = by-cases (last (q .left)) (λ t. rw t (same (finished (q .writes) l) Nothing)) (λ t. rw t (same l (Runs (programLeft q (q .left - 1))) ∙ h))
+  inside-modest : (e : Erase) (i : Inside) (l : Lent) → raisesInside l i ≡ false → Modest (lentTick p (runningInside i) l) (insideTick e i)
+  unfolding raisesInside raisesIn runningInside insideTick lentTick
+  inside-modest e Nothing l h = refl
+  inside-modest e (Runs q) l h = by-cases (last (q .left)) (λ t. rw t) (λ t. rw t h)
 
   pub tick-modest : (o : Operation) (l : Lent) → Modest l o → Modest (lentTick p (runningOf o) l) (operationTick p o)
   unfolding raisesIn raisesInside runningOf operationTick lentTick
@@ -60,9 +60,10 @@ module _ (p : Part) where
   tick-modest (Window e) l h = by-test (Modest l) (last (e .left)) (λ _. refl) (λ _. refl)
   tick-modest (Erasing e) l h = erase-modest _ Erasing (eraseTime p) e (λ x. refl)
   tick-modest (Recovering r) l h = by-test (Modest l) (last (r .left)) (λ _. refl) (λ _. refl)
-  tick-modest (EraseSuspended s) l h = inside-modest (resting (s .erase)) (λ m i. refl) (s .inside) l h
+  tick-modest (EraseSuspended s) l h = inside-modest (s .erase) (s .inside) l h
   tick-modest (ChipErasing e) l h = erase-modest _ ChipErasing (chipTime p) e (λ x. refl)
-  tick-modest (InOneTime i) l h = inside-modest InOneTime (λ m i. refl) i l h
+  tick-modest InOneTime l h = refl
+  tick-modest (OneTimeProgramming q) l h = by-cases (last (q .left)) (λ t. rw t) (λ t. rw t h)
 
   pub ticks-modest : (n : ℕ) (m : Moment) → Modest (m .lent) (m .operation) → Modest (ticks p n m .lent) (ticks p n m .operation)
   unfolding ticks tick

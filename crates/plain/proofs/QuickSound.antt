@@ -18,8 +18,8 @@ use Rattle.protection.specs.Protection.{strayBits}
 use Rattle.plain.specs.declared.Refusal.the-variants.{State, Cells}
 use Rattle.plain.specs.declared.Erase.{Erase}
 use Rattle.plain.specs.declared.Operation.{Operation}
-use Rattle.plain.specs.declared.Operation.the-variants.{Idle, Programming, ProgramSuspended, Window, Erasing, Recovering, EraseSuspended, ChipErasing, InOneTime}
-use Rattle.plain.specs.declared.Suspension.the-variants.{Unsuspended}
+use Rattle.plain.specs.declared.Operation.the-variants.{Idle, Programming, ProgramSuspended, Window, Erasing, Recovering, EraseSuspended, ChipErasing, InOneTime, OneTimeProgramming}
+use Rattle.plain.specs.declared.Suspension.the-variants.{Unsuspended, Entered}
 use Rattle.plain.specs.declared.Device.{Device}
 use Rattle.plain.specs.declared.Entry.{Entry}
 use Rattle.plain.specs.declared.Entry.the-variants.{Admitted, Barred}
@@ -27,7 +27,7 @@ use Rattle.plain.specs.Choice.{if_then_else_}
 use Rattle.plain.specs.Figures.{windowTime, eraseTime, recoveryTime, chipTime}
 use Rattle.plain.specs.Lent.{Lent, isWhole}
 use Rattle.plain.specs.Machine.{entry}
-use Rattle.plain.specs.Sound.{meterSound, timeSound, programSound, mayErase, mayChipErase, onlyThose, listSound, chipListSound, lowest, insideSound, enteredSound, operationSound, commandSound, sound}
+use Rattle.plain.specs.Sound.{meterSound, timeSound, programSound, mayErase, mayChipErase, onlyThose, listSound, chipListSound, lowest, insideSound, operationSound, commandSound, sound}
 
 or-false : (a : Bool) → (a || false) ≡ a
 or-false true = refl
@@ -124,7 +124,8 @@ quickOperation p bits (Erasing e) = quickBlockErase p bits e
 quickOperation p bits (Recovering r) = quickBlockErase p bits (r .erase) && timeSound (r .left) (recoveryTime p)
 quickOperation p bits (EraseSuspended s) = quickBlockErase p bits (s .erase) && insideSound p bits (s .erase) (s .inside)
 quickOperation p bits (ChipErasing e) = quickChipList p bits e && timeSound (e .left) (chipTime p)
-quickOperation p bits (InOneTime i) = enteredSound p bits i
+quickOperation p bits InOneTime = true
+quickOperation p bits (OneTimeProgramming q) = programSound p bits Entered q
 
 quick-operation : (p : Part) (bits : Protection) (o : Operation) → operationSound p bits o ≡ quickOperation p bits o
 unfolding operationSound quickOperation
@@ -136,7 +137,8 @@ quick-operation p bits (Erasing e) = rw (quick-list p bits e)
 quick-operation p bits (Recovering r) = rw (quick-list p bits (r .erase))
 quick-operation p bits (EraseSuspended s) = rw (quick-list p bits (s .erase))
 quick-operation p bits (ChipErasing e) = rw (quick-chip-list p bits e)
-quick-operation p bits (InOneTime i) = refl
+quick-operation p bits InOneTime = refl
+quick-operation p bits (OneTimeProgramming q) = refl
 
 unfoldable pub quickSound : Part → Device → Bool
 quickSound p r =

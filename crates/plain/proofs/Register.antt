@@ -37,7 +37,7 @@ unfoldable pub standing : Suspension → Operation
 standing Unsuspended = Idle
 standing (OfProgram q) = ProgramSuspended q
 standing (OfErase e) = EraseSuspended (suspended e Nothing)
-standing Entered = InOneTime Nothing
+standing Entered = InOneTime
 
 pub command-standing : (p : Part) (s : Suspension) (c : Command) → commandSound p (standing s) c ≡ stillCommand p s c
 unfolding commandSound standing runningOf runningInside suspensionOf isStill

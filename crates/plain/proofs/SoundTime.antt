@@ -16,7 +16,7 @@ use Rattle.plain.specs.declared.Erase.{Erase}
 use Rattle.plain.specs.declared.Inside.{Inside}
 use Rattle.plain.specs.declared.Inside.the-variants.{Nothing, Runs}
 use Rattle.plain.specs.declared.Operation.{Operation}
-use Rattle.plain.specs.declared.Operation.the-variants.{Idle, Programming, ProgramSuspended, Window, Erasing, Recovering, EraseSuspended, ChipErasing, InOneTime}
+use Rattle.plain.specs.declared.Operation.the-variants.{Idle, Programming, ProgramSuspended, Window, Erasing, Recovering, EraseSuspended, ChipErasing, InOneTime, OneTimeProgramming}
 use Rattle.plain.specs.declared.Running.{Running}
 use Rattle.plain.specs.declared.Running.the-variants.{Still, Programs, Waits, Erases, Recovers, ErasesChip}
 use Rattle.plain.specs.declared.Suspension.{Suspension}
@@ -26,11 +26,11 @@ use Rattle.plain.specs.Choice.{if_then_else_}
 use Rattle.plain.specs.Operations.{runningOf, runningInside}
 use Rattle.plain.specs.Record.{programLeft, erase, eraseLeft, suspended}
 use Rattle.plain.specs.Sound.{operationSound, isStill, commandSound}
-use Rattle.plain.specs.Time.{Moment, last, current, onward, resting, operationTick, insideTick, tick, ticks}
+use Rattle.plain.specs.Time.{Moment, last, current, onward, operationTick, insideTick, tick, ticks}
 use Rattle.plain.proofs.Tools.{by-test}
 use Rattle.plain.proofs.FigureLaws.{erase-some, chip-some, standby-most, one-sound}
-use Rattle.plain.proofs.Facts.{ProgramFacts, EraseFacts, BlockEraseFacts, programming, window, window-lowest, erasing, recovering, erase-suspended, inside-runs, entered-runs, chip-erasing}
-use Rattle.plain.proofs.FactsHold.{idle-holds, programming-holds, window-holds, erasing-holds, recovering-holds, resting-holds, inside-holds, chip-holds, entered-holds, programming-entered-holds}
+use Rattle.plain.proofs.Facts.{ProgramFacts, EraseFacts, BlockEraseFacts, programming, window, window-lowest, erasing, recovering, erase-suspended, inside-runs, chip-erasing, one-time-programming}
+use Rattle.plain.proofs.FactsHold.{idle-holds, programming-holds, window-holds, erasing-holds, recovering-holds, resting-holds, inside-holds, chip-holds, entered-holds, one-time-holds}
 use Rattle.plain.proofs.Register.{ran}
 
 -- ---- the same list with another block in hand, and another time left
@@ -50,11 +50,10 @@ closed p bits e f =
 
 -- ---- the register
 
-inside-command : (p : Part) (around : Inside → Operation) → ((i : Inside) → runningOf (around i) ≡ runningInside i)
-    → (i : Inside) (c : Command) → commandSound p (around i) c ≡ true → commandSound p (insideTick around i) c ≡ true
-unfolding insideTick commandSound runningInside isStill
-inside-command p around inside Nothing c s = s
-inside-command p around inside (Runs q) c s = ran p (insideTick around (Runs q)) c (rw (inside (Runs q)) at s)
+inside-command : (p : Part) (e : Erase) (i : Inside) (c : Command) → commandSound p (EraseSuspended (suspended e i)) c ≡ true → commandSound p (insideTick e i) c ≡ true
+unfolding insideTick commandSound runningOf runningInside isStill
+inside-command p e Nothing c s = s
+inside-command p e (Runs q) c s = ran p (insideTick e (Runs q)) c s
 
 tick-command : (p : Part) (o : Operation) (c : Command) → commandSound p o c ≡ true → commandSound p (operationTick p o) c ≡ true
 unfolding operationTick commandSound runningOf isStill
@@ -64,9 +63,10 @@ tick-command p (ProgramSuspended q) c e = e
 tick-command p (Window x) c e = ran p (operationTick p (Window x)) c e
 tick-command p (Erasing x) c e = ran p (operationTick p (Erasing x)) c e
 tick-command p (Recovering r) c e = ran p (operationTick p (Recovering r)) c e
-tick-command p (EraseSuspended s) c e = inside-command p (resting (s .erase)) (λ i. refl) (s .inside) c e
+tick-command p (EraseSuspended s) c e = inside-command p (s .erase) (s .inside) c e
 tick-command p (ChipErasing x) c e = ran p (operationTick p (ChipErasing x)) c e
-tick-command p (InOneTime i) c e = inside-command p InOneTime (λ i. refl) i c e
+tick-command p InOneTime c e = e
+tick-command p (OneTimeProgramming q) c e = ran p (operationTick p (OneTimeProgramming q)) c e
 
 -- ---- the operation
 
@@ -82,7 +82,7 @@ module _ (p : Part) (bits : Protection) where
       let l = fewer (q .left) (programTime p) h (f .most-left) in
       record { array = f .array; in-part = f .in-part; some-left = l .0; most-left = l .1; free = f .free }
 
-  inside-tick : (e : Erase) (i : Inside) → Fit (EraseSuspended (suspended e i)) → Fit (insideTick (resting e) i)
+  inside-tick : (e : Erase) (i : Inside) → Fit (EraseSuspended (suspended e i)) → Fit (insideTick e i)
   unfolding insideTick
   inside-tick e Nothing s = s
   inside-tick e (Runs q) s =
@@ -90,13 +90,6 @@ module _ (p : Part) (bits : Protection) where
       let g = inside-runs p bits (suspended e (Runs q)) q s refl in
       by-test Fit (last (q .left)) (λ h. resting-holds p bits e f)
       (λ h. inside-holds p bits e (programLeft q (q .left - 1)) f (record { program = counted _ q h (g .program); off-list = g .off-list }))
-
-  entered-tick : (i : Inside) → Fit (InOneTime i) → Fit (insideTick InOneTime i)
-  unfolding insideTick
-  entered-tick Nothing s = s
-  entered-tick (Runs q) s =
-      by-test Fit (last (q .left)) (λ h. entered-holds p bits)
-      (λ h. programming-entered-holds p bits (programLeft q (q .left - 1)) (counted _ q h (entered-runs p bits q s)))
 
   abbrev next : Erase → ℕ
   next e = firstFrom (e .list) (suc (e .hand))
@@ -152,7 +145,10 @@ module _ (p : Part) (bits : Protection) where
   tick-fit (ChipErasing e) s =
       let f = chip-erasing p bits e s in
       erase-tick e ChipErasing (chipTime p) (chip-some p) (f .most-left) (f .hand-listed) (chip-any e s)
-  tick-fit (InOneTime i) s = entered-tick i s
+  tick-fit InOneTime s = s
+  tick-fit (OneTimeProgramming q) s =
+      by-test Fit (last (q .left)) (λ h. entered-holds p bits)
+      (λ h. one-time-holds p bits (programLeft q (q .left - 1)) (counted _ q h (one-time-programming p bits q s)))
 
 -- ---- the meter
 

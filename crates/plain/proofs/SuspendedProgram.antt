@@ -9,12 +9,12 @@ use Rattle.plain.specs.declared.Program.{Program}
 use Rattle.plain.specs.declared.Inside.{Inside}
 use Rattle.plain.specs.declared.Inside.the-variants.{Nothing, Runs}
 use Rattle.plain.specs.declared.Operation.{Operation}
-use Rattle.plain.specs.declared.Operation.the-variants.{Idle, Programming, ProgramSuspended, Window, Erasing, Recovering, EraseSuspended, ChipErasing, InOneTime}
+use Rattle.plain.specs.declared.Operation.the-variants.{Idle, Programming, ProgramSuspended, Window, Erasing, Recovering, EraseSuspended, ChipErasing, InOneTime, OneTimeProgramming}
 use Rattle.plain.specs.declared.Running.the-variants.{Programs}
 use Rattle.plain.specs.declared.Command.{Command}
 use Rattle.plain.specs.declared.Effect.{Effect}
 use Rattle.plain.specs.declared.Effect.the-variants.{Stays}
-use Rattle.plain.specs.Commands.{programIsSuspended, unlessRuns, written, effected}
+use Rattle.plain.specs.Commands.{programIsSuspended, inSuspendedErase, written, effected}
 use Rattle.plain.specs.Lent.{Lent}
 use Rattle.plain.specs.Machine.{step}
 use Rattle.plain.specs.Operations.{runningInside, runningOf, suspensionOf}
@@ -24,8 +24,8 @@ use Rattle.plain.proofs.Lasting.{Lasting}
 
 -- ---- every write is BUSY
 
-inside-busy : (i : Inside) (q : Program) (x : Effect) → runningInside i ≡ Programs q → unlessRuns i x ≡ Stays Busy
-unfolding runningInside unlessRuns
+inside-busy : (i : Inside) (q : Program) (x : Effect) → runningInside i ≡ Programs q → inSuspendedErase i x ≡ Stays Busy
+unfolding runningInside inSuspendedErase
 inside-busy Nothing q x e = cc
 inside-busy (Runs r) q x e = refl
 
@@ -39,7 +39,8 @@ program-busy p bits (Erasing x) c l a w q e = cc
 program-busy p bits (Recovering x) c l a w q e = cc
 program-busy p bits (EraseSuspended s) c l a w q e = inside-busy (s .inside) q _ e
 program-busy p bits (ChipErasing x) c l a w q e = cc
-program-busy p bits (InOneTime i) c l a w q e = inside-busy i q _ e
+program-busy p bits InOneTime c l a w q e = cc
+program-busy p bits (OneTimeProgramming r) c l a w q e = refl
 
 pub programs-take-no-write : (p : Part) → ProgramsTakeNoWrite p
 unfolding step effected
@@ -65,5 +66,5 @@ awake-lasts =
       programming = λ q l h. refl;
       inside = λ e q l h. refl;
       entered = refl;
-      programming-entered = λ q l h. refl;
+      one-time = λ q l h. refl;
     }

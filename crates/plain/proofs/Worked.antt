@@ -21,8 +21,8 @@ use Rattle.plain.specs.Lent.{Lent, lent, otpWords, arrayOf, isWhole}
 use Rattle.plain.specs.Programs.{writes, datum, firstWord, arrayWritten, liesIn, blockWritten, bankWritten, barred, barredAs, dq7, raises, finished, debrisWords, debrisFor, cutOff}
 use Rattle.plain.specs.Operations.{runningInside, runningOf, suspensionOf}
 use Rattle.plain.specs.Record.{fresh}
-use Rattle.plain.specs.Sound.{meterSound, programSound, lowest, insideSound, enteredSound, cycleUnsuspended, readingSound, cycleInSuspension, cycleSound, stillCommand, isGround, isStill, commandSound}
-use Rattle.plain.specs.Commands.{isSuspended, programIsSuspended, resumes, keepsOut, begins, resets, atGround, afterUnlock, afterUnlocked, afterA0, after80, after80Unlock, after80Unlocked, after48, after60, after68, after6060, afterLock68, exits, afterReading, continued, entered, addBlock, inWindow, unlessRuns, written, effected}
+use Rattle.plain.specs.Sound.{meterSound, programSound, lowest, insideSound, cycleUnsuspended, readingSound, cycleInSuspension, cycleSound, stillCommand, isGround, isStill, commandSound}
+use Rattle.plain.specs.Commands.{isSuspended, programIsSuspended, resumes, keepsOut, begins, resets, atGround, afterUnlock, afterUnlocked, afterA0, after80, after80Unlock, after80Unlocked, after48, after60, after68, after6060, afterLock68, exits, afterReading, continued, entered, addBlock, inWindow, inSuspendedErase, written, effected}
 use Rattle.plain.specs.Time.{current, insideTick, operationTick, lentTick, tick, ticks}
 use Rattle.plain.specs.Status.{polls, insidePolled, polled, status, givenAt, givenWord, readingOn, readingWord, rests, restWord, rested, look}
 use Rattle.plain.specs.Cut.{begunBlock, begunInside, begunProgram, wordOf, blockDebris, programDebris, debrisNeeded, blockCut, programCut, cutLent}
@@ -116,10 +116,10 @@ unfolding filled has pack setOf some seek programmed cells.raises erased littere
     number programTime windowTime eraseTime recoveryTime chipTime runningCurrent standbyCurrent clockLimit
     writes datum firstWord arrayWritten liesIn blockWritten bankWritten barred barredAs dq7 raises finished debrisWords debrisFor cutOff
     runningInside runningOf suspensionOf
-    meterSound programSound lowest insideSound enteredSound
+    meterSound programSound lowest insideSound
     cycleUnsuspended readingSound cycleInSuspension cycleSound stillCommand isGround isStill commandSound
     isSuspended programIsSuspended resumes keepsOut begins resets atGround afterUnlock afterUnlocked afterA0 after80 after80Unlock after80Unlocked
-    after48 after60 after68 after6060 afterLock68 exits afterReading continued entered addBlock inWindow unlessRuns written effected
+    after48 after60 after68 after6060 afterLock68 exits afterReading continued entered addBlock inWindow inSuspendedErase written effected
     current insideTick operationTick lentTick tick
     polls insidePolled polled status givenAt givenWord readingOn readingWord rests restWord rested look
     begunBlock begunInside begunProgram wordOf blockDebris programDebris debrisNeeded blockCut programCut cutLent

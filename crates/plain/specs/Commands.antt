@@ -14,7 +14,7 @@ use Rattle.plain.specs.declared.Erase.{Erase}
 use Rattle.plain.specs.declared.Inside.{Inside}
 use Rattle.plain.specs.declared.Inside.the-variants.{Nothing, Runs}
 use Rattle.plain.specs.declared.Operation.{Operation}
-use Rattle.plain.specs.declared.Operation.the-variants.{Idle, Programming, ProgramSuspended, Window, Erasing, Recovering, EraseSuspended, ChipErasing, InOneTime}
+use Rattle.plain.specs.declared.Operation.the-variants.{Idle, Programming, ProgramSuspended, Window, Erasing, Recovering, EraseSuspended, ChipErasing, InOneTime, OneTimeProgramming}
 use Rattle.plain.specs.declared.Suspension.{Suspension}
 use Rattle.plain.specs.declared.Suspension.the-variants.{Unsuspended, OfProgram, OfErase, Entered}
 use Rattle.plain.specs.declared.Command.{Command}
@@ -72,7 +72,7 @@ unfoldable pub begins : Suspension → Program → Operation
 begins Unsuspended q = Programming q
 begins (OfProgram resting) q = ProgramSuspended resting
 begins (OfErase e) q = EraseSuspended (suspended e (Runs q))
-begins Entered q = InOneTime (Runs q)
+begins Entered q = OneTimeProgramming q
 
 -- document 02, request 4: after 60H the lock's address goes to the one-time block's lock, while it is entered
 abbrev pub atLock : Suspension → (a : ℕ) → Bool
@@ -112,7 +112,7 @@ afterUnlocked p bits s a w =
     (if not (isAt a 0x555) then Falls Sequence
     else if is w 0xA0 then unless (programIsSuspended s) (Goes (Entering ProgramData))
     else if is w 0x80 then unless (isSuspended s) (if isEntered s then Falls Sequence else Goes (Entering EraseSetup))
-    else if is w 0x88 then unless (isSuspended s) (Starts (InOneTime Nothing))
+    else if is w 0x88 then unless (isSuspended s) (Starts InOneTime)
     else if is w 0x90 then Goes (Reads (Identity (bankOf p a)))
     else if is w 0x58 then Goes (Reads Dybs)
     else if is w 0x48 then unless (isSuspended s) (Goes (Entering DybData))
@@ -252,12 +252,13 @@ inWindow p bits e a w =
 abbrev pub inErase : Part → Erase → (w : ℕ) → Effect
 inErase p e w = if is w 0xB0 then Starts (Recovering (recovery e (recoveryTime p))) else Stays Busy
 
--- "During a chip erase, or a program inside a suspended erase, it is BUSY."; so is in the one-time block "B0H in a program"
-unfoldable pub unlessRuns : Inside → Effect → Effect
-unlessRuns Nothing effect = effect
-unlessRuns (Runs q) effect = Stays Busy
+-- "During a chip erase, or a program inside a suspended erase, it is BUSY."
+unfoldable pub inSuspendedErase : Inside → Effect → Effect
+inSuspendedErase Nothing effect = effect
+inSuspendedErase (Runs q) effect = Stays Busy
 
--- document 02, request 9: "B0H during any program becomes BUSY."; and request 1, in the recovery: "every write is BUSY"
+-- document 02, request 9: "B0H during any program becomes BUSY.", in the one-time block too, by request 4; and request 1, in the
+-- recovery: "every write is BUSY"
 unfoldable pub written : Part → Protection → Operation → Command → Lent → (a w : ℕ) → Effect
 written p bits Idle c l a w = entered p bits Unsuspended c l a w
 written p bits (Programming q) c l a w = Stays Busy
@@ -265,9 +266,10 @@ written p bits (ProgramSuspended q) c l a w = entered p bits (OfProgram q) c l a
 written p bits (Window e) c l a w = inWindow p bits e a w
 written p bits (Erasing e) c l a w = inErase p e w
 written p bits (Recovering r) c l a w = Stays Busy
-written p bits (EraseSuspended s) c l a w = unlessRuns (s .inside) (entered p bits (OfErase (s .erase)) c l a w)
+written p bits (EraseSuspended s) c l a w = inSuspendedErase (s .inside) (entered p bits (OfErase (s .erase)) c l a w)
 written p bits (ChipErasing e) c l a w = Stays Busy
-written p bits (InOneTime i) c l a w = unlessRuns i (entered p bits Entered c l a w)
+written p bits InOneTime c l a w = entered p bits Entered c l a w
+written p bits (OneTimeProgramming q) c l a w = Stays Busy
 
 -- ---- the record afterwards (document 01, "Refusals by number", the column "afterwards"); every write gives the word 0
 

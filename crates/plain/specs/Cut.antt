@@ -12,7 +12,7 @@ use Rattle.plain.specs.declared.Program.{Program}
 use Rattle.plain.specs.declared.Inside.{Inside}
 use Rattle.plain.specs.declared.Inside.the-variants.{Nothing, Runs}
 use Rattle.plain.specs.declared.Operation.{Operation}
-use Rattle.plain.specs.declared.Operation.the-variants.{Idle, Programming, ProgramSuspended, Window, Erasing, Recovering, EraseSuspended, ChipErasing, InOneTime}
+use Rattle.plain.specs.declared.Operation.the-variants.{Idle, Programming, ProgramSuspended, Window, Erasing, Recovering, EraseSuspended, ChipErasing, InOneTime, OneTimeProgramming}
 use Rattle.plain.specs.declared.Command.the-variants.{Ground}
 use Rattle.plain.specs.declared.Device.{Device}
 use Rattle.plain.specs.declared.Array.the-variants.{Main}
@@ -47,7 +47,8 @@ begunBlock p (Erasing e) = ifBegun (e .left) (eraseTime p) (e .hand)
 begunBlock p (Recovering r) = ifBegun (r .erase .left) (eraseTime p) (r .erase .hand)
 begunBlock p (EraseSuspended s) = ifBegun (s .erase .left) (eraseTime p) (s .erase .hand)
 begunBlock p (ChipErasing e) = ifBegun (e .left) (chipTime p) (e .hand)
-begunBlock p (InOneTime i) = Nowhere
+begunBlock p InOneTime = Nowhere
+begunBlock p (OneTimeProgramming q) = Nowhere
 
 abbrev pub programBegun : Part → Program → BegunProgram
 programBegun p q = if begun (q .left) (programTime p) then Writes (q .writes) else NoProgram
@@ -65,7 +66,8 @@ begunProgram p (Erasing e) = NoProgram
 begunProgram p (Recovering r) = NoProgram
 begunProgram p (EraseSuspended s) = begunInside p (s .inside)
 begunProgram p (ChipErasing e) = NoProgram
-begunProgram p (InOneTime i) = begunInside p i
+begunProgram p InOneTime = NoProgram
+begunProgram p (OneTimeProgramming q) = programBegun p q
 
 -- the word that such a program is named by, and its array
 unfoldable pub wordOf : BegunProgram → Spot

@@ -15,7 +15,7 @@ use Rattle.plain.specs.declared.Erase.{Erase}
 use Rattle.plain.specs.declared.Inside.{Inside}
 use Rattle.plain.specs.declared.Inside.the-variants.{Nothing, Runs}
 use Rattle.plain.specs.declared.Operation.{Operation}
-use Rattle.plain.specs.declared.Operation.the-variants.{Idle, Programming, ProgramSuspended, Window, Erasing, Recovering, EraseSuspended, ChipErasing, InOneTime}
+use Rattle.plain.specs.declared.Operation.the-variants.{Idle, Programming, ProgramSuspended, Window, Erasing, Recovering, EraseSuspended, ChipErasing, InOneTime, OneTimeProgramming}
 use Rattle.plain.specs.declared.Command.{Command}
 use Rattle.plain.specs.declared.Command.the-variants.{Ground, Entering, Reads}
 use Rattle.plain.specs.declared.Cycle.the-variants.{Unlock, Unlocked, ProgramData, EraseSetup, EraseUnlock, EraseUnlocked, DybData, PpbSetup, PpbSetting, PpbClearing, OtpLocking}
@@ -60,10 +60,10 @@ resting c i = standing c (EraseSuspended (suspended (eraseOf (only 8) 8 1) i)) f
 
 -- in the one-time block: a program of one of its words, and a register
 abbrev there : (address : ℕ) → Operation
-there a = InOneTime (Runs (programIn OneTime a 1))
+there a = OneTimeProgramming (programIn OneTime a 1)
 
 abbrev entered : Command → Device
-entered c = standing c (InOneTime Nothing) freshBits
+entered c = standing c InOneTime freshBits
 
 abbrev guarding : Operation → Protection → Device
 guarding o b = standing Ground o b
@@ -126,7 +126,7 @@ times =
     ++ timed (λ t. EraseSuspended (suspended (eraseOf (only 8) 8 t) Nothing)) 700000 700001
     ++ timed (λ t. EraseSuspended (suspended (eraseOf (only 8) 8 1) (Runs (programAt 128 t)))) 6 7
     ++ timed (λ t. ChipErasing (eraseOf (only 8) 8 t)) 500000 500001
-    ++ timed (λ t. InOneTime (Runs (programIn OneTime 128 t))) 6 7
+    ++ timed (λ t. OneTimeProgramming (programIn OneTime 128 t)) 6 7
 
 -- "a program's block is unprotected and not on a suspended erase list"
 abbrev pub programsFree : List Edge
@@ -161,14 +161,14 @@ oneTimePrograms =
     edge (doing (there 128)) (doing (there 127))
     ∷ edge (guarding (there 128) (bits emptyOf emptyOf true false)) (guarding (there 128) (bits emptyOf emptyOf false true))
     ∷ edge (guarding (there 200) (bits (only 10) (only 10) false false)) (guarding (Programming (programAt 200 1)) (bits (only 10) (only 10) false false))
-    ∷ edge (guarding (InOneTime (Runs (programAt 256 1))) (bits (only 10) emptyOf false false)) (guarding (InOneTime (Runs (programAt 256 1))) (bits (only 11) emptyOf false false))
+    ∷ edge (guarding (OneTimeProgramming (programAt 256 1)) (bits (only 10) emptyOf false false)) (guarding (OneTimeProgramming (programAt 256 1)) (bits (only 11) emptyOf false false))
     ∷ []
 
 -- a program writes to the array that mode and address select
 abbrev pub arrays : List Edge
 arrays =
-    edge (doing (there 255)) (doing (InOneTime (Runs (programAt 255 1))))
-    ∷ edge (doing (InOneTime (Runs (programAt 256 1)))) (doing (there 256))
+    edge (doing (there 255)) (doing (OneTimeProgramming (programAt 255 1)))
+    ∷ edge (doing (OneTimeProgramming (programAt 256 1))) (doing (there 256))
     ∷ edge (doing (Programming (programAt 128 1))) (doing (Programming (programIn OneTime 128 1)))
     ∷ edge (resting Ground (Runs (programAt 128 1))) (resting Ground (Runs (programIn OneTime 128 1)))
     ∷ []

@@ -16,7 +16,7 @@ use Rattle.plain.specs.Rows.{Row, runs, hands, takes, waits, gives, refu
 
 -- entered, with nothing under way and these bits
 abbrev entered : Protection → Device
-entered b = standing Ground (InOneTime Nothing) b
+entered b = standing Ground InOneTime b
 
 abbrev inside : Device
 inside = entered freshBits

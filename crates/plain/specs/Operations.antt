@@ -7,7 +7,7 @@ use Rattle.plain.specs.declared.Array.the-variants.{Main, OneTime}
 use Rattle.plain.specs.declared.Inside.{Inside}
 use Rattle.plain.specs.declared.Inside.the-variants.{Nothing, Runs}
 use Rattle.plain.specs.declared.Operation.{Operation}
-use Rattle.plain.specs.declared.Operation.the-variants.{Idle, Programming, ProgramSuspended, Window, Erasing, Recovering, EraseSuspended, ChipErasing, InOneTime}
+use Rattle.plain.specs.declared.Operation.the-variants.{Idle, Programming, ProgramSuspended, Window, Erasing, Recovering, EraseSuspended, ChipErasing, InOneTime, OneTimeProgramming}
 use Rattle.plain.specs.declared.Running.{Running}
 use Rattle.plain.specs.declared.Running.the-variants.{Still, Programs, Waits, Erases, Recovers, ErasesChip}
 use Rattle.plain.specs.declared.Suspension.{Suspension}
@@ -29,7 +29,8 @@ runningOf (Erasing e) = Erases e
 runningOf (Recovering r) = Recovers r
 runningOf (EraseSuspended s) = runningInside (s .inside)
 runningOf (ChipErasing e) = ErasesChip e
-runningOf (InOneTime i) = runningInside i
+runningOf InOneTime = Still
+runningOf (OneTimeProgramming q) = Programs q
 
 -- "only a block erase or a program may be suspended"; or the one-time block is entered
 unfoldable pub suspensionOf : Operation → Suspension
@@ -41,7 +42,8 @@ suspensionOf (Erasing e) = Unsuspended
 suspensionOf (Recovering r) = Unsuspended
 suspensionOf (EraseSuspended s) = OfErase (s .erase)
 suspensionOf (ChipErasing e) = Unsuspended
-suspensionOf (InOneTime i) = Entered
+suspensionOf InOneTime = Entered
+suspensionOf (OneTimeProgramming q) = Entered
 
 -- ---- the one-time block (document 02, request 4)
 

@@ -15,7 +15,7 @@ use Rattle.plain.specs.declared.Erase.{Erase}
 use Rattle.plain.specs.declared.Inside.{Inside}
 use Rattle.plain.specs.declared.Inside.the-variants.{Nothing, Runs}
 use Rattle.plain.specs.declared.Operation.{Operation}
-use Rattle.plain.specs.declared.Operation.the-variants.{Idle, Programming, ProgramSuspended, Window, Erasing, Recovering, EraseSuspended, ChipErasing, InOneTime}
+use Rattle.plain.specs.declared.Operation.the-variants.{Idle, Programming, ProgramSuspended, Window, Erasing, Recovering, EraseSuspended, ChipErasing, InOneTime, OneTimeProgramming}
 use Rattle.plain.specs.declared.Running.{Running}
 use Rattle.plain.specs.declared.Running.the-variants.{Still, Programs, Waits, Erases, Recovers, ErasesChip}
 use Rattle.plain.specs.declared.Suspension.{Suspension}
@@ -82,11 +82,6 @@ unfoldable pub insideSound : Part → Protection → Erase → Inside → Bool
 insideSound p bits e Nothing = true
 insideSound p bits e (Runs q) = programSound p bits (OfErase e) q && not (has (e .list) (blockWritten p (q .writes)))
 
--- while the one-time block is entered nothing runs but a program
-unfoldable pub enteredSound : Part → Protection → Inside → Bool
-enteredSound p bits Nothing = true
-enteredSound p bits (Runs q) = programSound p bits Entered q
-
 -- a block erase past its window: "time left is from 1 to the full time"
 abbrev pub blockEraseSound : Part → Protection → Erase → Bool
 blockEraseSound p bits e = listSound p bits e && timeSound (e .left) (eraseTime p)
@@ -103,7 +98,8 @@ operationSound p bits (Erasing e) = blockEraseSound p bits e
 operationSound p bits (Recovering r) = blockEraseSound p bits (r .erase) && timeSound (r .left) (recoveryTime p)
 operationSound p bits (EraseSuspended s) = blockEraseSound p bits (s .erase) && insideSound p bits (s .erase) (s .inside)
 operationSound p bits (ChipErasing e) = chipListSound p bits e && timeSound (e .left) (chipTime p)
-operationSound p bits (InOneTime i) = enteredSound p bits i
+operationSound p bits InOneTime = true
+operationSound p bits (OneTimeProgramming q) = programSound p bits Entered q
 
 -- "block numbers are in range": of 68H's block, and of the bank of identity reading. While the one-time block is entered none is half
 -- entered past 80H, and 68H at the lock's address only then

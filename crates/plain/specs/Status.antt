@@ -12,7 +12,7 @@ use Rattle.plain.specs.declared.Inside.{Inside}
 use Rattle.plain.specs.declared.Inside.the-variants.{Nothing, Runs}
 use Rattle.plain.specs.declared.SuspendedErase.{SuspendedErase}
 use Rattle.plain.specs.declared.Operation.{Operation}
-use Rattle.plain.specs.declared.Operation.the-variants.{Idle, Programming, ProgramSuspended, Window, Erasing, Recovering, EraseSuspended, ChipErasing, InOneTime}
+use Rattle.plain.specs.declared.Operation.the-variants.{Idle, Programming, ProgramSuspended, Window, Erasing, Recovering, EraseSuspended, ChipErasing, InOneTime, OneTimeProgramming}
 use Rattle.plain.specs.declared.Running.{Running}
 use Rattle.plain.specs.declared.Running.the-variants.{Still, Programs, Waits, Erases, Recovers, ErasesChip}
 use Rattle.plain.specs.declared.Suspension.{Suspension}
@@ -67,7 +67,8 @@ polled p (Erasing e) a = Erasing (erasePolled p e a)
 polled p (Recovering r) a = Recovering (recovery (erasePolled p (r .erase) a) (r .left))
 polled p (EraseSuspended s) a = EraseSuspended (suspended (s .erase) (insidePolled (s .inside)))
 polled p (ChipErasing e) a = ChipErasing (erasePolled p e a)
-polled p (InOneTime i) a = InOneTime (insidePolled i)
+polled p InOneTime a = InOneTime
+polled p (OneTimeProgramming q) a = OneTimeProgramming (programPolled q)
 
 -- "Program: DQ7 is the complement of data bit 7, DQ2 shows 1, DQ3 0. Erase: DQ7 0, DQ3 1 except 0 in the window"
 unfoldable pub status : Running → ℕ
@@ -140,7 +141,8 @@ rested (Erasing e) = Erasing e
 rested (Recovering r) = Recovering r
 rested (EraseSuspended s) = EraseSuspended (restFlipped s)
 rested (ChipErasing e) = ChipErasing e
-rested (InOneTime i) = InOneTime i
+rested InOneTime = InOneTime
+rested (OneTimeProgramming q) = OneTimeProgramming q
 
 -- ---- the word, and the operation with its toggles afterwards: "Any other read gives the cell."; document 02, request 4: "the one-time words
 -- or .. the main array", by mode and address

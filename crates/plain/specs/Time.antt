@@ -13,7 +13,7 @@ use Rattle.plain.specs.declared.Erase.{Erase}
 use Rattle.plain.specs.declared.Inside.{Inside}
 use Rattle.plain.specs.declared.Inside.the-variants.{Nothing, Runs}
 use Rattle.plain.specs.declared.Operation.{Operation}
-use Rattle.plain.specs.declared.Operation.the-variants.{Idle, Programming, ProgramSuspended, Window, Erasing, Recovering, EraseSuspended, ChipErasing, InOneTime}
+use Rattle.plain.specs.declared.Operation.the-variants.{Idle, Programming, ProgramSuspended, Window, Erasing, Recovering, EraseSuspended, ChipErasing, InOneTime, OneTimeProgramming}
 use Rattle.plain.specs.declared.Running.{Running}
 use Rattle.plain.specs.declared.Running.the-variants.{Still, Programs, Waits, Erases, Recovers, ErasesChip}
 use Rattle.plain.specs.Choice.{if_then_else_}
@@ -55,15 +55,15 @@ onward p erasing full e =
     then erasing (erase (e .list) (firstFrom (e .list) (suc (e .hand))) full (e .dq6) (e .dq2))
     else Idle
 
--- "When a program inside a suspended erase ends, the erase stays suspended.": so does the one-time block stay entered
-unfoldable pub insideTick : (Inside → Operation) → Inside → Operation
-insideTick around Nothing = around Nothing
-insideTick around (Runs q) = if last (q .left) then around Nothing else around (Runs (programLeft q (q .left - 1)))
+-- "When a program inside a suspended erase ends, the erase stays suspended."
+unfoldable pub insideTick : Erase → Inside → Operation
+insideTick e Nothing = EraseSuspended (suspended e Nothing)
+insideTick e (Runs q) =
+    if last (q .left) then EraseSuspended (suspended e Nothing)
+    else EraseSuspended (suspended e (Runs (programLeft q (q .left - 1))))
 
-abbrev pub resting : Erase → Inside → Operation
-resting e i = EraseSuspended (suspended e i)
-
--- in a recovery "the block makes no progress": its time left stands, and it is suspended when the recovery is over
+-- in a recovery "the block makes no progress": its time left stands, and it is suspended when the recovery is over; the one-time block stays
+-- entered when a program in it ends
 unfoldable pub operationTick : Part → Operation → Operation
 operationTick p Idle = Idle
 operationTick p (Programming q) = if last (q .left) then Idle else Programming (programLeft q (q .left - 1))
@@ -72,10 +72,11 @@ operationTick p (Window e) = if last (e .left) then Erasing (eraseLeft e (eraseT
 operationTick p (Erasing e) = if last (e .left) then onward p Erasing (eraseTime p) e else Erasing (eraseLeft e (e .left - 1))
 operationTick p (Recovering r) =
     if last (r .left) then EraseSuspended (suspended (r .erase) Nothing) else Recovering (recovery (r .erase) (r .left - 1))
-operationTick p (EraseSuspended s) = insideTick (resting (s .erase)) (s .inside)
+operationTick p (EraseSuspended s) = insideTick (s .erase) (s .inside)
 operationTick p (ChipErasing e) =
     if last (e .left) then onward p ChipErasing (chipTime p) e else ChipErasing (eraseLeft e (e .left - 1))
-operationTick p (InOneTime i) = insideTick InOneTime i
+operationTick p InOneTime = InOneTime
+operationTick p (OneTimeProgramming q) = if last (q .left) then InOneTime else OneTimeProgramming (programLeft q (q .left - 1))
 
 -- ---- what it does to the cells: "Cells change only when a word or block is finished."
 

@@ -32,9 +32,9 @@ pub enum Array {
 // What a program writes: "address and all 16 data bits", in one of the arrays. Who asks of it goes by Programs, and takes it apart
 // nowhere else.
 pub struct Written {
-    pub array: Array,
     pub at: usize,
     pub word: u16,
+    pub array: Array,
 }
 
 // A program: what it writes, the microseconds left, and its toggle.
@@ -53,7 +53,7 @@ pub struct Erase {
     pub dq2: bool,
 }
 
-// What goes on inside a suspended erase, or inside the one-time block.
+// What goes on inside a suspended erase.
 pub enum Inside {
     Nothing,
     Runs(Program),
@@ -72,7 +72,7 @@ pub struct Recovery {
 
 // What runs, is suspended or is entered. A block erase that runs is in one of three phases: in its window (there `left` is the window's time,
 // and the block in hand has its full time yet), erasing, or recovering. A suspended program is held by stored records alone.
-// While the one-time block is entered no erase runs and nothing is suspended: there is no place for them.
+// While the one-time block is entered a program may run, but no erase, and nothing is suspended: there is no place for them.
 pub enum Operation {
     Idle,
     Programming(Program),
@@ -82,7 +82,8 @@ pub enum Operation {
     Recovering(Recovery),
     EraseSuspended(SuspendedErase),
     ChipErasing(Erase),
-    InOneTime(Inside),
+    InOneTime,
+    OneTimeProgramming(Program),
 }
 
 // What of an operation runs, a program inside a suspended erase or the one-time block included: asked by all who go by what runs now.

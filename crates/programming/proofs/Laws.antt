@@ -12,14 +12,14 @@ use Rattle.plain.specs.declared.Inside.the-variants.{Nothing, Runs}
 use Rattle.plain.specs.declared.SuspendedErase.{SuspendedErase}
 use Rattle.plain.specs.declared.Suspension.the-variants.{Unsuspended, OfErase, Entered}
 use Rattle.plain.specs.declared.Operation.{Operation}
-use Rattle.plain.specs.declared.Operation.the-variants.{Idle, Programming, EraseSuspended, InOneTime}
+use Rattle.plain.specs.declared.Operation.the-variants.{Idle, Programming, EraseSuspended, InOneTime, OneTimeProgramming}
 use Rattle.plain.specs.Figures.{runningCurrent, standbyCurrent}
 use Rattle.plain.specs.Lent.{Lent}
 use Rattle.plain.specs.Programs.{finished}
 use Rattle.plain.specs.Record.{programLeft, suspended}
 use Rattle.plain.specs.Time.{moment}
-use Rattle.plain.proofs.Facts.{ProgramFacts, programming, inside-runs, entered-runs}
-use Rattle.plain.proofs.InTime.{idle-still, erase-still, entered-still, program-running, inside-running, entered-running}
+use Rattle.plain.proofs.Facts.{ProgramFacts, programming, inside-runs, one-time-programming}
+use Rattle.plain.proofs.InTime.{idle-still, erase-still, entered-still, program-running, inside-running, one-time-running}
 use Rattle.plain.proofs.Ticks.{still, drift, passes}
 use Rattle.moments.specs.Moments.{Passable, moved}
 use Rattle.moments.proofs.Passed.{Passed, passed, still-passed}
@@ -38,8 +38,8 @@ alone-facts p m q l n f = programming p (f .bits) q (f .sound)
 pub inside-facts : (p : Part) (m : Meter) (e : Erase) (q : Program) (l : Lent) (n : ℕ) → (f : Passable p m (EraseSuspended (suspended e (Runs q))) l n) → ProgramFacts p (f .bits) (OfErase e) q
 inside-facts p m e q l n f = inside-runs p (f .bits) (suspended e (Runs q)) q (f .sound) refl .program
 
-pub entered-facts : (p : Part) (m : Meter) (q : Program) (l : Lent) (n : ℕ) → (f : Passable p m (InOneTime (Runs q)) l n) → ProgramFacts p (f .bits) Entered q
-entered-facts p m q l n f = entered-runs p (f .bits) q (f .sound)
+pub one-time-facts : (p : Part) (m : Meter) (q : Program) (l : Lent) (n : ℕ) → (f : Passable p m (OneTimeProgramming q) l n) → ProgramFacts p (f .bits) Entered q
+one-time-facts p m q l n f = one-time-programming p (f .bits) q (f .sound)
 
 module _ (p : Part) (m : Meter) (l : Lent) (n : ℕ) where
   abbrev runs : ℕ → Meter
@@ -79,18 +79,15 @@ module _ (p : Part) (m : Meter) (l : Lent) (n : ℕ) where
 
   -- ---- in the one-time block
 
-  pub entered-stands : (i : Inside) → i ≡ Nothing → Passed p n (moment m (InOneTime i) l) (moved (moment (metered m n (n * standbyCurrent p)) (InOneTime i) l)) l
-  entered-stands i d = rw d (still-passed p m (InOneTime Nothing) l n (entered-still p))
+  pub one-time-goes-on : (q : Program) → n < q .left
+      → Passed p n (moment m (OneTimeProgramming q) l) (moved (moment (runs n) (OneTimeProgramming (programLeft q (q .left - n))) l)) l
+  one-time-goes-on q h =
+      passed p n (moment m (OneTimeProgramming q) l) (moment (runs n) (OneTimeProgramming (programLeft q (q .left - n))) l)
+      (drift p _ _ _ _ (one-time-running p q) n (q .left) m l h)
 
-  pub entered-goes-on : (q : Program) → n < q .left
-      → Passed p n (moment m (InOneTime (Runs q)) l) (moved (moment (runs n) (InOneTime (Runs (programLeft q (q .left - n)))) l)) l
-  entered-goes-on q h =
-      passed p n (moment m (InOneTime (Runs q)) l) (moment (runs n) (InOneTime (Runs (programLeft q (q .left - n)))) l)
-      (drift p _ _ _ _ (entered-running p q) n (q .left) m l h)
-
-  pub entered-ends : (q : Program) → 1 ≤ q .left → q .left ≤ n
-      → Passed p n (moment m (InOneTime (Runs q)) l) (moved (moment (ended (q .left)) (InOneTime Nothing) l)) (finished (q .writes) l)
-  entered-ends q s h =
-      passed p n (moment m (InOneTime (Runs q)) l) (moment (ended (q .left)) (InOneTime Nothing) (finished (q .writes) l))
-      (passes p _ _ _ _ (entered-running p q) n (q .left) m l s h
-      ∙ still p (InOneTime Nothing) (standbyCurrent p) (entered-still p) (n - q .left) (runs (q .left)) (finished (q .writes) l))
+  pub one-time-ends : (q : Program) → 1 ≤ q .left → q .left ≤ n
+      → Passed p n (moment m (OneTimeProgramming q) l) (moved (moment (ended (q .left)) InOneTime l)) (finished (q .writes) l)
+  one-time-ends q s h =
+      passed p n (moment m (OneTimeProgramming q) l) (moment (ended (q .left)) InOneTime (finished (q .writes) l))
+      (passes p _ _ _ _ (one-time-running p q) n (q .left) m l s h
+      ∙ still p InOneTime (standbyCurrent p) (entered-still p) (n - q .left) (runs (q .left)) (finished (q .writes) l))

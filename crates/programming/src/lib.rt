@@ -4,7 +4,7 @@ ghost use mathlib.Core.Bool.{true};
 ghost use Prim.Native.Nat.{_*_, _-_, _≤_};
 ghost use Rattle.meter.specs.Meter.{metered};
 ghost use Rattle.plain.specs.declared.Inside.the-variants.{Runs};
-ghost use Rattle.plain.specs.declared.Operation.the-variants.{Programming, EraseSuspended, InOneTime};
+ghost use Rattle.plain.specs.declared.Operation.the-variants.{Programming, EraseSuspended, OneTimeProgramming};
 ghost use Rattle.plain.specs.Figures.{runningCurrent, standbyCurrent};
 ghost use Rattle.plain.specs.Lent.{lent, Whole};
 ghost use Rattle.plain.specs.Programs.{liesIn, finished};
@@ -105,29 +105,7 @@ fn pass_inside(
 }
 
 // The one-time block stays entered when a program in it ends.
-pub fn pass_entered(
-    part: Part,
-    meter: Meter,
-    inside: Inside,
-    cells: &mut [u16],
-    otp: &mut [u16],
-    n: u64,
-) -> Moved
-    requires { ⌜ Passable part meter (InOneTime inside) (lent (now cells) (now otp)) n ⌝ }
-    ensures { λ r. ⌜ r ≡ moved (ticks part n (moment meter (InOneTime inside) (lent (now (cells .entry)) (now (otp .entry))))) ⌝ }
-    ensures { λ r. ⌜ now (cells .exit) ≡ ticks part n (moment meter (InOneTime inside) (lent (now (cells .entry)) (now (otp .entry)))) .lent .cells ⌝ }
-    ensures { λ r. ⌜ now (otp .exit) ≡ ticks part n (moment meter (InOneTime inside) (lent (now (cells .entry)) (now (otp .entry)))) .lent .otp ⌝ }
-{
-    match inside {
-        Inside::Nothing => Moved {
-            meter: moments::stood_by(part, meter, n),
-            operation: Operation::InOneTime(inside),
-        },
-        Inside::Runs(q) => pass_one_time(part, meter, q, cells, otp, n),
-    }
-}
-
-fn pass_one_time(
+pub fn pass_one_time(
     part: Part,
     meter: Meter,
     q: Program,
@@ -135,21 +113,21 @@ fn pass_one_time(
     otp: &mut [u16],
     n: u64,
 ) -> Moved
-    requires { ⌜ Passable part meter (InOneTime (Runs q)) (lent (now cells) (now otp)) n ⌝ }
-    ensures { λ r. ⌜ r ≡ moved (ticks part n (moment meter (InOneTime (Runs q)) (lent (now (cells .entry)) (now (otp .entry))))) ⌝ }
-    ensures { λ r. ⌜ now (cells .exit) ≡ ticks part n (moment meter (InOneTime (Runs q)) (lent (now (cells .entry)) (now (otp .entry)))) .lent .cells ⌝ }
-    ensures { λ r. ⌜ now (otp .exit) ≡ ticks part n (moment meter (InOneTime (Runs q)) (lent (now (cells .entry)) (now (otp .entry)))) .lent .otp ⌝ }
+    requires { ⌜ Passable part meter (OneTimeProgramming q) (lent (now cells) (now otp)) n ⌝ }
+    ensures { λ r. ⌜ r ≡ moved (ticks part n (moment meter (OneTimeProgramming q) (lent (now (cells .entry)) (now (otp .entry))))) ⌝ }
+    ensures { λ r. ⌜ now (cells .exit) ≡ ticks part n (moment meter (OneTimeProgramming q) (lent (now (cells .entry)) (now (otp .entry)))) .lent .cells ⌝ }
+    ensures { λ r. ⌜ now (otp .exit) ≡ ticks part n (moment meter (OneTimeProgramming q) (lent (now (cells .entry)) (now (otp .entry)))) .lent .otp ⌝ }
 {
     let left = q.left;
     if n < left {
         return Moved {
             meter: moments::ran(part, meter, n),
-            operation: Operation::InOneTime(Inside::Runs(with_left(q, left - n))),
+            operation: Operation::OneTimeProgramming(with_left(q, left - n)),
         };
     }
     Moved {
         meter: end_program(part, meter, q, cells, otp, n),
-        operation: Operation::InOneTime(Inside::Nothing),
+        operation: Operation::InOneTime,
     }
 }
 

@@ -17,9 +17,9 @@ pub fn writing(array: Array, address: usize, word: u16) -> Written
     ensures { λ r. ⌜ r ≡ writing array address word ⌝ }
 {
     Written {
-        array: array,
         at: address,
         word: word,
+        array: array,
     }
 }
 

@@ -8,7 +8,6 @@ use geometry::Part;
 use plain::Array;
 use plain::Device;
 use plain::Entry;
-use plain::Inside;
 use plain::Operation;
 use plain::Refusal;
 use plain::figures;
@@ -80,10 +79,8 @@ fn hands_back(operation: Operation) -> bool
         Operation::Recovering(_) => false,
         Operation::EraseSuspended(_) => false,
         Operation::ChipErasing(_) => false,
-        Operation::InOneTime(inside) => match inside {
-            Inside::Nothing => true,
-            Inside::Runs(_) => false,
-        },
+        Operation::InOneTime => true,
+        Operation::OneTimeProgramming(_) => false,
     }
 }
 

@@ -6,10 +6,8 @@ ghost use Rattle.plain.specs.Lent.{lent, otpWords};
 ghost use Rattle.plain.specs.Status.{look};
 use geometry::Part;
 use plain::Array;
-use plain::Command;
-use plain::Operation;
+use plain::Device;
 use plain::Seen;
-use protection::Protection;
 
 mod readings;
 mod resting;
@@ -17,26 +15,21 @@ mod resting;
 // The word that a read sees, and the operation with its toggles afterwards: first the status of what runs in the bank, "after
 // that come identity and 58H reading; then suspension", and "any other read gives the cell", or
 // the one-time word.
-pub fn look(
-    part: Part,
-    bits: Protection,
-    command: Command,
-    operation: Operation,
-    cells: &[u16],
-    otp: &[u16],
-    address: usize,
-) -> Seen
+pub fn look(part: Part, device: Device, cells: &[u16], otp: &[u16], address: usize) -> Seen
     requires { ⌜ (address < length (now cells)) × (length (now otp) ≡ otpWords) ⌝ }
-    ensures { λ r. ⌜ r ≡ look part bits command operation (lent (now (cells .entry)) (now (otp .entry))) address ⌝ }
+    ensures { λ r. ⌜ r ≡ look part (device .bits) (device .command) (device .operation) (lent (now (cells .entry)) (now (otp .entry))) address ⌝ }
 {
-    if status::polls(part, operations::running_of(operation), address) {
+    let operation = device.operation;
+    if status::polls(part, operation, address) {
         let after = status::polled(part, operation, address);
         return Seen {
-            word: status::status_of(operations::running_of(after)),
+            word: status::status_of(after),
             operation: after,
         };
     }
+    let command = device.command;
     if readings::reading_on(part, command, address) {
+        let bits = device.bits;
         return Seen {
             word: readings::reading_word(part, bits, command, address),
             operation: operation,

@@ -55,7 +55,8 @@ pub fn rested(operation: Operation) -> Operation
         Operation::Recovering(_) => operation,
         Operation::EraseSuspended(suspended) => Operation::EraseSuspended(rest_flipped(suspended)),
         Operation::ChipErasing(_) => operation,
-        Operation::InOneTime(_) => operation,
+        Operation::InOneTime => operation,
+        Operation::OneTimeProgramming(_) => operation,
     }
 }
 

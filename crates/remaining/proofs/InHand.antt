@@ -11,14 +11,14 @@ use Rattle.plain.specs.declared.Erase.{Erase}
 use Rattle.plain.specs.declared.Inside.{Inside}
 use Rattle.plain.specs.declared.Inside.the-variants.{Nothing, Runs}
 use Rattle.plain.specs.declared.Operation.{Operation}
-use Rattle.plain.specs.declared.Operation.the-variants.{Idle, Programming, ProgramSuspended, Window, Erasing, Recovering, EraseSuspended, ChipErasing, InOneTime}
+use Rattle.plain.specs.declared.Operation.the-variants.{Idle, Programming, ProgramSuspended, Window, Erasing, Recovering, EraseSuspended, ChipErasing, InOneTime, OneTimeProgramming}
 use Rattle.plain.specs.declared.Running.{Running}
 use Rattle.plain.specs.declared.Running.the-variants.{Still, Programs, Waits, Erases, Recovers, ErasesChip}
 use Rattle.plain.specs.Figures.{windowTime, eraseTime, chipTime}
 use Rattle.plain.specs.Operations.{runningOf, runningInside}
 use Rattle.plain.specs.Record.{suspended}
 use Rattle.plain.specs.Sound.{operationSound}
-use Rattle.plain.proofs.Facts.{EraseFacts, programming, window, erasing, recovering, inside-runs, chip-erasing, entered-runs}
+use Rattle.plain.proofs.Facts.{EraseFacts, programming, window, erasing, recovering, inside-runs, chip-erasing, one-time-programming}
 use Rattle.remaining.specs.Remaining.{Fits}
 
 -- the block in hand is one of the part's, and has some of its time left
@@ -44,11 +44,6 @@ module _ (p : Part) (bits : Protection) where
   inside-timely e Nothing s = tt
   inside-timely e (Runs q) s = inside-runs p bits (suspended e (Runs q)) q s refl .program .some-left
 
-  entered-timely : (i : Inside) → operationSound p bits (InOneTime i) ≡ true → Timely p (runningInside i)
-  unfolding Timely runningInside
-  entered-timely Nothing s = tt
-  entered-timely (Runs q) s = entered-runs p bits q s .some-left
-
   timely : (o : Operation) → operationSound p bits o ≡ true → Timely p (runningOf o)
   unfolding Timely runningOf
   timely Idle s = tt
@@ -59,7 +54,8 @@ module _ (p : Part) (bits : Protection) where
   timely (Recovering r) s = recovering p bits r s .some-left
   timely (EraseSuspended s) h = inside-timely (s .erase) (s .inside) h
   timely (ChipErasing e) s = timed e (chipTime p) (chip-erasing p bits e s)
-  timely (InOneTime i) s = entered-timely i s
+  timely InOneTime s = tt
+  timely (OneTimeProgramming q) s = one-time-programming p bits q s .some-left
 
 pub fits-timely : (p : Part) (o : Operation) → Fits p o → Timely p (runningOf o)
 fits-timely p o f = timely p (f .bits) o (f .sound)

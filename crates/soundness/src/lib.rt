@@ -40,8 +40,13 @@ pub fn is_sound(part: Part, device: Device) -> bool
         return false;
     }
     let operation = device.operation;
-    if !underway::operation_sound(part, bits, operation) {
-        return false;
+    if !operations::is_idle(operation) {
+        // Taken out anew, so that what an idle device has no use for is not taken out above.
+        let under_way = device.operation;
+        let protection = device.bits;
+        if !underway::operation_sound(part, protection, under_way) {
+            return false;
+        }
     }
     let command = device.command;
     standing::command_sound(part, operation, command)

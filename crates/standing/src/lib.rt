@@ -1,6 +1,6 @@
 // May the command register stand as it does beside what runs, is suspended or is entered?
 ghost use mathlib.Core.Path.{_≡_};
-ghost use Rattle.plain.specs.Sound.{cycleSound, stillCommand, isGround, isStill, commandSound};
+ghost use Rattle.plain.specs.Sound.{cycleSound, stillCommand, isGround, commandSound};
 
 mod cycles;
 
@@ -8,29 +8,15 @@ use geometry::Part;
 use plain::Command;
 use plain::Cycle;
 use plain::Operation;
-use plain::Running;
 use plain::Suspension;
 
 pub fn command_sound(part: Part, operation: Operation, command: Command) -> bool
     ensures { λ r. ⌜ r ≡ commandSound part operation command ⌝ }
 {
-    if is_still(operations::running_of(operation)) {
+    if operations::is_still(operation) {
         return still_command(part, operations::suspension_of(operation), command);
     }
     is_ground(command)
-}
-
-fn is_still(running: Running) -> bool
-    ensures { λ r. ⌜ r ≡ isStill running ⌝ }
-{
-    match running {
-        Running::Still => true,
-        Running::Programs(_) => false,
-        Running::Waits(_) => false,
-        Running::Erases(_) => false,
-        Running::Recovers(_) => false,
-        Running::ErasesChip(_) => false,
-    }
 }
 
 // "no command is half entered and no identity or 58H reading is on while an operation runs"

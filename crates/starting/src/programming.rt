@@ -37,7 +37,7 @@ pub fn begins(suspension: Suspension, program: Program) -> Operation
             erase: erase,
             inside: Inside::Runs(program),
         }),
-        Suspension::Entered => Operation::InOneTime(Inside::Runs(program)),
+        Suspension::Entered => Operation::OneTimeProgramming(program),
     }
 }
 

@@ -1,7 +1,9 @@
 // The status words of what runs (document 01, "Status words").
 ghost use mathlib.Core.Path.{_≡_};
 ghost use mathlib.Core.Bool.{not};
+ghost use Rattle.plain.specs.declared.Running.the-variants.{Programs};
 ghost use Rattle.plain.specs.Choice.{if_then_else_};
+ghost use Rattle.plain.specs.Operations.{runningInside, runningOf};
 ghost use Rattle.plain.specs.Status.{polls, programPolled, erasePolled, insidePolled, polled, status};
 use geometry::Part;
 use plain::Erase;
@@ -9,7 +11,6 @@ use plain::Inside;
 use plain::Operation;
 use plain::Program;
 use plain::Recovery;
-use plain::Running;
 use plain::SuspendedErase;
 
 mod word;
@@ -18,23 +19,44 @@ pub use word::shown;
 pub use word::status_word;
 
 // "A read in the bank of a running operation (window included; any bank in a chip erase) gives a status word."
-pub fn polls(part: Part, running: Running, address: usize) -> bool
-    ensures { λ r. ⌜ r ≡ polls part running address ⌝ }
+// It goes by the operation as it stands, and copies nothing of it.
+pub fn polls(part: Part, operation: Operation, address: usize) -> bool
+    ensures { λ r. ⌜ r ≡ polls part (runningOf operation) address ⌝ }
 {
-    match running {
-        Running::Still => false,
-        Running::Programs(program) => {
-            let written = program.writes;
-            part.bank_of(address) == programs::bank_written(part, written)
-        }
-        Running::Waits(erase) => part.bank_of(address) == part.bank_of_block(erase.hand),
-        Running::Erases(erase) => part.bank_of(address) == part.bank_of_block(erase.hand),
-        Running::Recovers(recovery) => {
+    match operation {
+        Operation::Idle => false,
+        Operation::Programming(program) => program_polls(part, program, address),
+        Operation::ProgramSuspended(_) => false,
+        Operation::Window(erase) => part.bank_of(address) == part.bank_of_block(erase.hand),
+        Operation::Erasing(erase) => part.bank_of(address) == part.bank_of_block(erase.hand),
+        Operation::Recovering(recovery) => {
             let erase = recovery.erase;
             part.bank_of(address) == part.bank_of_block(erase.hand)
         }
-        Running::ErasesChip(_) => true,
+        Operation::EraseSuspended(suspended) => {
+            let inside = suspended.inside;
+            inside_polls(part, inside, address)
+        }
+        Operation::ChipErasing(_) => true,
+        Operation::InOneTime => false,
+        Operation::OneTimeProgramming(program) => program_polls(part, program, address),
     }
+}
+
+fn inside_polls(part: Part, inside: Inside, address: usize) -> bool
+    ensures { λ r. ⌜ r ≡ polls part (runningInside inside) address ⌝ }
+{
+    match inside {
+        Inside::Nothing => false,
+        Inside::Runs(program) => program_polls(part, program, address),
+    }
+}
+
+fn program_polls(part: Part, program: Program, address: usize) -> bool
+    ensures { λ r. ⌜ r ≡ polls part (Programs program) address ⌝ }
+{
+    let written = program.writes;
+    part.bank_of(address) == programs::bank_written(part, written)
 }
 
 // The operation with the toggles that such a read shows.
@@ -64,7 +86,10 @@ pub fn polled(part: Part, operation: Operation, address: usize) -> Operation
             })
         }
         Operation::ChipErasing(erase) => Operation::ChipErasing(erase_polled(part, erase, address)),
-        Operation::InOneTime(inside) => Operation::InOneTime(inside_polled(inside)),
+        Operation::InOneTime => operation,
+        Operation::OneTimeProgramming(program) => {
+            Operation::OneTimeProgramming(program_polled(program))
+        }
     }
 }
 
@@ -113,21 +138,41 @@ fn flipped(hit: bool, bit: bool) -> bool
 }
 
 // "Program: DQ7 is the complement of data bit 7, DQ2 shows 1, DQ3 0. Erase: DQ7 0, DQ3 1 except 0 in the window"
-pub fn status_of(running: Running) -> u16
-    ensures { λ r. ⌜ r ≡ status running ⌝ }
+pub fn status_of(operation: Operation) -> u16
+    ensures { λ r. ⌜ r ≡ status (runningOf operation) ⌝ }
 {
-    match running {
-        Running::Still => 0,
-        Running::Programs(program) => {
-            let written = program.writes;
-            status_word(programs::dq7(written), program.dq6, false, true)
-        }
-        Running::Waits(erase) => status_word(false, erase.dq6, false, erase.dq2),
-        Running::Erases(erase) => status_word(false, erase.dq6, true, erase.dq2),
-        Running::Recovers(recovery) => {
+    match operation {
+        Operation::Idle => 0,
+        Operation::Programming(program) => program_status(program),
+        Operation::ProgramSuspended(_) => 0,
+        Operation::Window(erase) => status_word(false, erase.dq6, false, erase.dq2),
+        Operation::Erasing(erase) => status_word(false, erase.dq6, true, erase.dq2),
+        Operation::Recovering(recovery) => {
             let erase = recovery.erase;
             status_word(false, erase.dq6, true, erase.dq2)
         }
-        Running::ErasesChip(erase) => status_word(false, erase.dq6, true, erase.dq2),
+        Operation::EraseSuspended(suspended) => {
+            let inside = suspended.inside;
+            inside_status(inside)
+        }
+        Operation::ChipErasing(erase) => status_word(false, erase.dq6, true, erase.dq2),
+        Operation::InOneTime => 0,
+        Operation::OneTimeProgramming(program) => program_status(program),
     }
+}
+
+fn inside_status(inside: Inside) -> u16
+    ensures { λ r. ⌜ r ≡ status (runningInside inside) ⌝ }
+{
+    match inside {
+        Inside::Nothing => 0,
+        Inside::Runs(program) => program_status(program),
+    }
+}
+
+fn program_status(program: Program) -> u16
+    ensures { λ r. ⌜ r ≡ status (Programs program) ⌝ }
+{
+    let written = program.writes;
+    status_word(programs::dq7(written), program.dq6, false, true)
 }

@@ -2,10 +2,15 @@
 ghost use mathlib.Core.Path.{_≡_};
 ghost use Prim.Native.Nat.{_+_, _≤_};
 ghost use lib.ListN.{length};
+ghost use Rattle.plain.specs.declared.Operation.the-variants.{Idle};
 ghost use Rattle.layout.specs.Places.{recordWords};
-ghost use Rattle.layout.specs.Image.{toggles, imageOf};
-ghost use Rattle.layout.specs.Stored.{withMeter, withCommand, withBlocks, withErase, withProgram, withOperation, withToggles, withBits};
+ghost use Rattle.layout.specs.Image.{imageOf};
+ghost use Rattle.layout.specs.Stored.{withMeter, withCommand, withBlocks, withErase, withProgram, withParts, withOperation, withToggles, withBits};
+
+mod toggles;
+
 use blocks::Blocks;
+use layout::OperationParts;
 use meter::Meter;
 use numbers::commands;
 use numbers::operations;
@@ -37,7 +42,21 @@ pub fn put_operation(words: &mut [u64], operation: Operation)
     requires { ⌜ length (now words) ≡ recordWords ⌝ }
     ensures { λ _. ⌜ now (words .exit) ≡ withOperation (now (words .entry)) operation ⌝ }
 {
-    let told = operations::parts_of(operation);
+    put_parts(words, operations::parts_of(operation));
+}
+
+// The same of no operation, which a cut leaves: no match is asked for.
+pub fn put_idle(words: &mut [u64])
+    requires { ⌜ length (now words) ≡ recordWords ⌝ }
+    ensures { λ _. ⌜ now (words .exit) ≡ withOperation (now (words .entry)) Idle ⌝ }
+{
+    put_parts(words, operations::idle_parts());
+}
+
+fn put_parts(words: &mut [u64], told: OperationParts)
+    requires { ⌜ length (now words) ≡ recordWords ⌝ }
+    ensures { λ _. ⌜ now (words .exit) ≡ withParts (now (words .entry)) told ⌝ }
+{
     put_erase(words, told.erase);
     put_program(words, told.program);
     words[layout::OPERATION_AT] = told.number;
@@ -52,14 +71,7 @@ fn put_erase(words: &mut [u64], erase: Erase)
     put_blocks(words, layout::LIST_AT, erase.list);
     words[layout::HAND_AT] = erase.hand as u64;
     words[layout::ERASE_LEFT_AT] = erase.left;
-    words[layout::TOGGLES_AT] = toggles(erase);
-}
-
-// "DQ6 + 2 * DQ2"
-fn toggles(erase: Erase) -> u64
-    ensures { λ r. ⌜ r ≡ toggles (erase .dq6) (erase .dq2) ⌝ }
-{
-    erase.dq6 as u64 + 2 * (erase.dq2 as u64)
+    words[layout::TOGGLES_AT] = toggles::toggles(erase);
 }
 
 fn put_program(words: &mut [u64], program: Program)
@@ -77,9 +89,8 @@ pub fn put_toggles(words: &mut [u64], operation: Operation)
     requires { ⌜ length (now words) ≡ recordWords ⌝ }
     ensures { λ _. ⌜ now (words .exit) ≡ withToggles (now (words .entry)) operation ⌝ }
 {
-    let told = operations::parts_of(operation);
-    words[layout::TOGGLES_AT] = toggles(told.erase);
-    words[layout::TOGGLE_AT] = told.program.dq6 as u64;
+    words[layout::TOGGLES_AT] = toggles::of_erase(operation);
+    words[layout::TOGGLE_AT] = toggles::of_program(operation);
 }
 
 pub fn put_bits(words: &mut [u64], bits: Protection)

@@ -16,8 +16,8 @@ use Rattle.plain.specs.Figures.{programTime, windowTime, eraseTime, recoveryTim
 use Rattle.plain.specs.Lent.{otpWords, isWhole}
 use Rattle.plain.specs.Programs.{firstWord, arrayWritten, liesIn, blockWritten, bankWritten, barred, barredAs, raises, finished, debrisWords}
 use Rattle.plain.specs.Operations.{runningInside, runningOf, suspensionOf}
-use Rattle.plain.specs.Sound.{meterSound, programSound, listSound, chipListSound, lowest, insideSound, enteredSound, operationSound, cycleUnsuspended, readingSound, cycleInSuspension, cycleSound, stillCommand, isGround, isStill, commandSound, sound}
-use Rattle.plain.specs.Commands.{isSuspended, programIsSuspended, resumes, keepsOut, begins, resets, atGround, afterUnlock, afterUnlocked, afterA0, after80, after80Unlock, after80Unlocked, after48, after60, after68, after6060, afterLock68, exits, afterReading, continued, entered, addBlock, inWindow, unlessRuns, written, effected}
+use Rattle.plain.specs.Sound.{meterSound, programSound, listSound, chipListSound, lowest, insideSound, operationSound, cycleUnsuspended, readingSound, cycleInSuspension, cycleSound, stillCommand, isGround, isStill, commandSound, sound}
+use Rattle.plain.specs.Commands.{isSuspended, programIsSuspended, resumes, keepsOut, begins, resets, atGround, afterUnlock, afterUnlocked, afterA0, after80, after80Unlock, after80Unlocked, after48, after60, after68, after6060, afterLock68, exits, afterReading, continued, entered, addBlock, inWindow, inSuspendedErase, written, effected}
 use Rattle.plain.specs.Time.{current, insideTick, operationTick, lentTick, tick, ticks}
 use Rattle.plain.specs.Cut.{begunBlock, begunInside, begunProgram, blockDebris, programDebris, debrisNeeded}
 use Rattle.plain.specs.Machine.{Ran, climbed}
@@ -55,10 +55,10 @@ unfolding has pack setOf some seek programmed cells.raises erased
     number programTime windowTime eraseTime recoveryTime chipTime runningCurrent standbyCurrent clockLimit
     firstWord arrayWritten liesIn blockWritten bankWritten barred barredAs raises finished debrisWords
     runningInside runningOf suspensionOf
-    meterSound programSound listSound chipListSound lowest insideSound enteredSound operationSound
+    meterSound programSound listSound chipListSound lowest insideSound operationSound
     cycleUnsuspended readingSound cycleInSuspension cycleSound stillCommand isGround isStill commandSound sound
     isSuspended programIsSuspended resumes keepsOut begins resets atGround afterUnlock afterUnlocked afterA0 after80 after80Unlock after80Unlocked
-    after48 after60 after68 after6060 afterLock68 exits afterReading continued entered addBlock inWindow unlessRuns written effected
+    after48 after60 after68 after6060 afterLock68 exits afterReading continued entered addBlock inWindow inSuspendedErase written effected
     current insideTick operationTick lentTick tick
     begunBlock begunInside begunProgram blockDebris programDebris debrisNeeded
     climbed someAt someOf quickOnly quickList quickChipList quickOperation quickSound quickEntry quickLadder

@@ -2,7 +2,7 @@
 ghost use mathlib.Core.Path.{_≡_};
 ghost use Rattle.plain.specs.declared.Operation.the-variants.{Window, Erasing, Recovering, EraseSuspended, ChipErasing};
 ghost use Rattle.plain.specs.Programs.{same};
-ghost use Rattle.plain.specs.Sound.{timeSound, arraySound, programSound, insideSound, enteredSound, operationSound};
+ghost use Rattle.plain.specs.Sound.{timeSound, arraySound, programSound, insideSound, operationSound};
 
 mod lists;
 
@@ -41,7 +41,13 @@ pub fn operation_sound(part: Part, bits: Protection, operation: Operation) -> bo
         Operation::Recovering(recovery) => recovering_sound(part, bits, recovery),
         Operation::EraseSuspended(suspended) => suspended_sound(part, bits, suspended),
         Operation::ChipErasing(erase) => chip_erasing_sound(part, bits, erase),
-        Operation::InOneTime(inside) => entered_sound(part, bits, inside),
+        Operation::InOneTime => true,
+        Operation::OneTimeProgramming(program) => program_sound(
+            part,
+            bits,
+            Suspension::Entered,
+            program,
+        ),
     }
 }
 
@@ -155,16 +161,6 @@ fn inside_sound(part: Part, bits: Protection, erase: Erase, inside: Inside) -> b
             let list = erase.list;
             !list.has(programs::block_written(part, program.writes))
         }
-    }
-}
-
-// While the one-time block is entered nothing runs but a program.
-fn entered_sound(part: Part, bits: Protection, inside: Inside) -> bool
-    ensures { λ r. ⌜ r ≡ enteredSound part bits inside ⌝ }
-{
-    match inside {
-        Inside::Nothing => true,
-        Inside::Runs(program) => program_sound(part, bits, Suspension::Entered, program),
     }
 }
 

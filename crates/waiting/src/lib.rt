@@ -37,6 +37,17 @@ pub fn pass(
         Operation::Recovering(r) => recovering::pass_recovery(part, meter, r, n),
         Operation::EraseSuspended(s) => programming::pass_suspended(part, meter, s, cells, otp, n),
         Operation::ChipErasing(e) => erasing::pass_erase(part, true, meter, e, cells, otp, n),
-        Operation::InOneTime(i) => programming::pass_entered(part, meter, i, cells, otp, n),
+        Operation::InOneTime => Moved {
+            meter: moments::stood_by(part, meter, n),
+            operation: operation,
+        },
+        Operation::OneTimeProgramming(q) => programming::pass_one_time(
+            part,
+            meter,
+            q,
+            cells,
+            otp,
+            n,
+        ),
     }
 }

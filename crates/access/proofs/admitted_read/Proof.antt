@@ -15,6 +15,6 @@ admitted-read-spec =
     (λ c κs. search needs)  -- words-requires
     (λ c. answers (read-address _ _ _ _ (c .before .before .before .before .pre) (rw (c .before .words .ensures) at (c .if1 .taken))))  -- returns
     (λ c κs.
-    let fit = c .before .before .before .before .before .pre in
-    (omega (arith, fit .whole Main, rw (c .before .before .words .ensures) at (c .before .if1 .left)), fit .whole OneTime))  -- look-requires
-    (λ c. rw (c .look .ensures) (answers (read-passes _ _ _ _ (c .before .before .before .before .before .before .pre) (rw (c .before .before .before .words .ensures) at (c .before .before .if1 .left))))))  -- returns-2
+    let fit = c .before .before .before .before .pre in
+    (omega (arith, fit .whole Main, rw (c .before .words .ensures) at (c .if1 .left)), fit .whole OneTime))  -- look-requires
+    (λ c. rw (c .look .ensures) (answers (read-passes _ _ _ _ (c .before .before .before .before .before .pre) (rw (c .before .before .words .ensures) at (c .before .if1 .left))))))  -- returns-2

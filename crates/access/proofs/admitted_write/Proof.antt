@@ -13,4 +13,4 @@ admitted-write-spec =
     (λ c κs. search needs)  -- words-requires
     (λ c. answers (write-address _ _ _ _ _ (c .before .before .before .before .pre) (rw (c .before .words .ensures) at (c .if1 .taken))))  -- returns
     (λ c κs. search needs)  -- written-requires
-    (λ c. rw (c .written .ensures) (answers (write-passes _ _ _ _ _ (c .before .before .before .before .before .before .pre) (rw (c .before .before .before .words .ensures) at (c .before .before .if1 .left))))))  -- returns-2
+    (λ c. rw (c .written .ensures) (answers (write-passes _ _ _ _ _ (c .before .before .before .before .before .pre) (rw (c .before .before .words .ensures) at (c .before .if1 .left))))))  -- returns-2

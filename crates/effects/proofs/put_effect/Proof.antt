@@ -29,7 +29,7 @@ put-effect-spec =
     (λ c κs. search needs)  -- number-of-requires-5
     (λ c. search needs)  -- enum-told
     (λ c κs. long _ (c .before .before .before .before .pre))  -- put-command-requires-5
-    (λ c κs. rw (c .before .before .before .put-command5 .ensures, long-command) (long _ (c .before .before .before .before .before .before .before .before .pre)))  -- put-operation-requires-2
+    (λ c κs. rw (c .before .before .before .put-command5 .ensures, long-command) (long _ (c .before .before .before .before .before .before .before .before .pre)))  -- put-idle-requires
     (λ c κs. search needs)  -- number-of-requires-6
     (λ c. search needs)  -- same-length
     (λ c. rw (c .before .before .before .before .before .before .effect .given .1) (c .number-of .ensures, c .before .before .before .put-command .ensures ∙ stored-command _ (c .before .before .before .before .before .before .before .before .before .pre) _))  -- returns
@@ -41,4 +41,4 @@ put-effect-spec =
     (λ c. rw (c .before .before .before .before .before .before .effect4 .given .1) (c .number-of4 .ensures, c .before .before .before .put-command4 .ensures ∙ stored-command _ (c .before .before .before .before .before .before .before .before .before .pre) _))  -- returns-4
     (λ c. rw (c .before .before .effect5 .given .1) (c .number-of5 .ensures, sym (canonical _ (c .before .before .before .before .before .pre))))  -- returns-5
     (λ c. search needs)  -- same-length-5
-    (λ c. rw (c .before .before .before .before .before .before .before .before .before .enum-told .given .1) (c .number-of6 .ensures, rw (c .before .before .before .put-operation2 .ensures, c .before .before .before .before .before .before .before .put-command5 .ensures) (stored-started _ (c .before .before .before .before .before .before .before .before .before .before .before .before .pre) _ _))))  -- returns-6
+    (λ c. rw (c .before .before .before .before .before .before .before .before .before .enum-told .given .1) (c .number-of6 .ensures, rw (c .before .before .before .put-idle .ensures, c .before .before .before .before .before .before .before .put-command5 .ensures) (stored-started _ (c .before .before .before .before .before .before .before .before .before .before .before .before .pre) _ _))))  -- returns-6

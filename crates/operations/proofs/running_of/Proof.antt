@@ -17,8 +17,8 @@ running-of-spec =
     (λ c. search needs)  -- enum-known-operation-5
     (λ c κs. search needs)  -- running-inside-requires
     (λ c. search needs)  -- enum-known-operation-6
+    (λ c. search needs)  -- enum-told-3
     (λ c. search needs)  -- enum-known-operation-7
-    (λ c κs. search needs)  -- running-inside-requires-2
     (λ c. rw (c .enum-told .given .1))  -- returns
     (λ c. rw (c .before .operation .given .1))  -- returns-2
     (λ c. rw (c .enum-told2 .given .1))  -- returns-3
@@ -27,4 +27,5 @@ running-of-spec =
     (λ c. rw (c .before .operation4 .given .1))  -- returns-6
     (λ c. rw (c .running-inside .ensures, c .before .before .operation5 .given .1))  -- returns-7
     (λ c. rw (c .before .operation6 .given .1))  -- returns-8
-    (λ c. rw (c .running-inside2 .ensures, c .before .before .operation7 .given .1)))  -- returns-9
+    (λ c. rw (c .enum-told3 .given .1))  -- returns-9
+    (λ c. rw (c .before .operation7 .given .1)))  -- returns-10

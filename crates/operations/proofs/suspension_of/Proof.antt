@@ -17,6 +17,7 @@ suspension-of-spec =
     (λ c. search needs)  -- enum-known-operation-2
     (λ c. search needs)  -- enum-told-6
     (λ c. search needs)  -- enum-told-7
+    (λ c. search needs)  -- enum-told-8
     (λ c. rw (c .enum-told .given .1))  -- returns
     (λ c. rw (c .enum-told2 .given .1))  -- returns-2
     (λ c. rw (c .before .operation .given .1))  -- returns-3
@@ -25,4 +26,5 @@ suspension-of-spec =
     (λ c. rw (c .enum-told5 .given .1))  -- returns-6
     (λ c. rw (c .before .before .operation2 .given .1))  -- returns-7
     (λ c. rw (c .enum-told6 .given .1))  -- returns-8
-    (λ c. rw (c .enum-told7 .given .1)))  -- returns-9
+    (λ c. rw (c .enum-told7 .given .1))  -- returns-9
+    (λ c. rw (c .enum-told8 .given .1)))  -- returns-10

@@ -1,6 +1,6 @@
 use mathlib.Core.Path.{_∙_}
 use borrow.Author.Needs.{needs}
-use Rattle.programming.proofs.Laws.{entered-facts, entered-goes-on, entered-ends}
+use Rattle.programming.proofs.Laws.{one-time-facts, one-time-goes-on, one-time-ends}
 use Rattle.programming.proofs.pass_one_time.Statement.{statement}
 use Rattle.programming.proofs.pass_one_time.Tie as tie
 
@@ -12,14 +12,14 @@ pass-one-time-spec =
     (λ c. search needs)  -- sub-with-left
     (λ c κs. search needs)  -- with-left-requires
     (λ c.
-    let done = entered-goes-on _ _ _ _ _ (c .before .before .if1 .taken) in
+    let done = one-time-goes-on _ _ _ _ _ (c .before .before .if1 .taken) in
     (rw (c .with-left .ensures, c .before .ran .ensures) (done .result), done .exit))  -- returns
     (λ c κs.
     let fit = c .before .before .before .before .before .pre in
-    (fit .room, ((fit .whole, entered-facts _ _ _ _ _ fit .in-part), c .before .before .if1 .left)))  -- end-program-requires
+    (fit .room, ((fit .whole, one-time-facts _ _ _ _ _ fit .in-part), c .before .before .if1 .left)))  -- end-program-requires
     (λ c. search needs)  -- same-length
     (λ c. search needs)  -- same-length-2
     (λ c.
-    let done = entered-ends _ _ _ _ _ (entered-facts _ _ _ _ _ (c .before .before .before .before .before .before .before .before .before .before .pre) .some-left) (c .before .before .before .before .before .before .before .if1 .left) in
+    let done = one-time-ends _ _ _ _ _ (one-time-facts _ _ _ _ _ (c .before .before .before .before .before .before .before .before .before .before .pre) .some-left) (c .before .before .before .before .before .before .before .if1 .left) in
     let end = c .before .before .before .before .end-program .ensures in
     (rw (end .0) (done .result), (end .1 .0 ∙ done .exit .0, end .1 .1 ∙ done .exit .1))))  -- returns-2

@@ -5,7 +5,7 @@ use Rattle.ranging.proofs.hands_back.Statement.{statement}
 use Rattle.ranging.proofs.hands_back.Tie as tie
 
 pub hands-back-spec : {M : Type 1} → statement M
-unfolding runningOf runningInside suspensionOf isStill
+unfolding runningOf suspensionOf isStill
 hands-back-spec =
     tie.close
     (tie.spec
@@ -17,7 +17,6 @@ hands-back-spec =
     (λ c. search needs)  -- enum-told-6
     (λ c. search needs)  -- enum-told-7
     (λ c. search needs)  -- enum-told-8
-    (λ c. search needs)  -- enum-known-operation
     (λ c. search needs)  -- enum-told-9
     (λ c. search needs)  -- enum-told-10
     (λ c. rw (c .enum-told .given .1))  -- returns
@@ -28,5 +27,5 @@ hands-back-spec =
     (λ c. rw (c .enum-told6 .given .1))  -- returns-6
     (λ c. rw (c .enum-told7 .given .1))  -- returns-7
     (λ c. rw (c .enum-told8 .given .1))  -- returns-8
-    (λ c. rw (c .before .before .before .operation .given .1, c .enum-told9 .given .1))  -- returns-9
-    (λ c. rw (c .before .before .before .operation .given .1, c .enum-told10 .given .1)))  -- returns-10
+    (λ c. rw (c .enum-told9 .given .1))  -- returns-9
+    (λ c. rw (c .enum-told10 .given .1)))  -- returns-10

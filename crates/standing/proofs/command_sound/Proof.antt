@@ -8,10 +8,9 @@ unfolding commandSound
 command-sound-spec =
     tie.close
     (tie.spec
-    (λ c κs. search needs)  -- running-of-requires
     (λ c κs. search needs)  -- is-still-requires
     (λ c κs. search needs)  -- suspension-of-requires
     (λ c κs. search needs)  -- still-command-requires
-    (λ c. rw (c .still-command .ensures, c .before .suspension-of .ensures, ← c .before .before .before .before .running-of .ensures, ← c .before .before .before .is-still .ensures, c .before .before .if1 .taken))  -- returns
+    (λ c. rw (c .still-command .ensures, c .before .suspension-of .ensures, ← c .before .before .before .is-still .ensures, c .before .before .if1 .taken))  -- returns
     (λ c κs. search needs)  -- is-ground-requires
-    (λ c. rw (c .is-ground .ensures, ← c .before .before .before .running-of .ensures, ← c .before .before .is-still .ensures, c .before .if1 .left)))  -- returns-2
+    (λ c. rw (c .is-ground .ensures, ← c .before .before .is-still .ensures, c .before .if1 .left)))  -- returns-2

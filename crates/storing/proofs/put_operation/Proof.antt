@@ -1,7 +1,5 @@
-use lib.ListN.{length-set}
 use borrow.Author.Needs.{needs}
 use Rattle.layout.specs.Stored.{withOperation}
-use Rattle.storing.proofs.Flags.{flag-byte}
 use Rattle.storing.proofs.put_operation.Statement.{statement}
 use Rattle.storing.proofs.put_operation.Tie as tie
 
@@ -11,11 +9,6 @@ put-operation-spec =
     tie.close
     (tie.spec
     (λ c κs. search needs)  -- parts-of-requires
-    (λ c κs. search needs)  -- put-erase-requires
-    (λ c κs. search needs)  -- put-program-requires
-    (λ c. search needs)  -- slice-write-words
-    (λ c. rw length-set (search needs))  -- slice-write-words-2
-    (λ c. search needs)  -- cast-words
-    (λ c. rw (length-set, length-set) (search needs))  -- slice-write-words-3
-    (λ c. rw (length-set, length-set, length-set) (search needs))  -- same-length
-    (λ c. rw (flag-byte, c .before .before .before .put-program .ensures, c .before .before .before .before .before .before .before .put-erase .ensures, c .before .before .before .before .before .before .before .before .before .parts-of .ensures)))  -- returns
+    (λ c κs. search needs)  -- put-parts-requires
+    (λ c. search needs)  -- same-length
+    (λ c. rw (c .before .before .put-parts .ensures, c .before .before .before .parts-of .ensures)))  -- returns

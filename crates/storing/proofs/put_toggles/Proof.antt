@@ -1,6 +1,5 @@
 use borrow.Author.Needs.{needs}
 use Rattle.layout.specs.Stored.{withToggles}
-use Rattle.storing.proofs.Flags.{flag-byte}
 use Rattle.storing.proofs.put_toggles.Statement.{statement}
 use Rattle.storing.proofs.put_toggles.Tie as tie
 
@@ -9,10 +8,9 @@ unfolding withToggles
 put-toggles-spec =
     tie.close
     (tie.spec
-    (λ c κs. search needs)  -- parts-of-requires
-    (λ c κs. search needs)  -- toggles-requires
+    (λ c κs. search needs)  -- of-erase-requires
     (λ c. search needs)  -- slice-write-words
-    (λ c. search needs)  -- cast-words
+    (λ c κs. search needs)  -- of-program-requires
     (λ c. search needs)  -- slice-write-words-2
     (λ c. search needs)  -- same-length
-    (λ c. rw (flag-byte, c .before .toggles .ensures, c .before .before .parts-of .ensures)))  -- returns
+    (λ c. rw (c .of-program .ensures, c .before .of-erase .ensures)))  -- returns

@@ -23,8 +23,9 @@ operation-sound-spec =
     (λ c κs. search needs)  -- suspended-sound-requires
     (λ c. search needs)  -- enum-known-operation-7
     (λ c κs. search needs)  -- chip-erasing-sound-requires
+    (λ c. search needs)  -- enum-told-2
     (λ c. search needs)  -- enum-known-operation-8
-    (λ c κs. search needs)  -- entered-sound-requires
+    (λ c κs. search needs)  -- program-sound-requires-3
     (λ c. rw (c .enum-told .given .1))  -- returns
     (λ c. rw (c .program-sound .ensures, c .before .before .operation .given .1))  -- returns-2
     (λ c. rw (c .program-sound2 .ensures, c .before .before .operation2 .given .1))  -- returns-3
@@ -33,4 +34,5 @@ operation-sound-spec =
     (λ c. rw (c .recovering-sound .ensures, c .before .before .operation5 .given .1))  -- returns-6
     (λ c. rw (c .suspended-sound .ensures, c .before .before .operation6 .given .1))  -- returns-7
     (λ c. rw (c .chip-erasing-sound .ensures, c .before .before .operation7 .given .1))  -- returns-8
-    (λ c. rw (c .entered-sound .ensures, c .before .before .operation8 .given .1)))  -- returns-9
+    (λ c. rw (c .enum-told2 .given .1))  -- returns-9
+    (λ c. rw (c .program-sound3 .ensures, c .before .before .operation8 .given .1)))  -- returns-10

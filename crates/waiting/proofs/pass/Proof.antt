@@ -3,7 +3,7 @@ use mathlib.Core.Path.{refl}
 use native.Mathlib.Omega.{arith}
 use borrow.Author.Needs.{needs}
 use Rattle.plain.proofs.Facts.{recovering}
-use Rattle.plain.proofs.InTime.{idle-still, program-still}
+use Rattle.plain.proofs.InTime.{idle-still, program-still, entered-still}
 use Rattle.moments.proofs.Rooms.{room-first}
 use Rattle.moments.proofs.Passed.{alone-passed, still-passed, passable-as}
 use Rattle.waiting.proofs.pass.Statement.{statement}
@@ -31,8 +31,10 @@ pass-spec =
     (λ c κs. passable-as _ _ _ _ _ _ (c .before .before .before .operation5 .given .1) (c .before .before .before .before .before .before .before .pre))  -- pass-suspended-requires
     (λ c. search needs)  -- enum-known-operation-6
     (λ c κs. passable-as _ _ _ _ _ _ (c .before .before .before .operation6 .given .1) (c .before .before .before .before .before .before .before .pre))  -- pass-erase-requires-2
+    (λ c. search needs)  -- enum-told-3
+    (λ c κs. c .before .before .before .before .pre .room)  -- stood-by-requires-3
     (λ c. search needs)  -- enum-known-operation-7
-    (λ c κs. passable-as _ _ _ _ _ _ (c .before .before .before .operation7 .given .1) (c .before .before .before .before .before .before .before .pre))  -- pass-entered-requires
+    (λ c κs. passable-as _ _ _ _ _ _ (c .before .before .before .operation7 .given .1) (c .before .before .before .before .before .before .before .pre))  -- pass-one-time-requires
     (λ c.
     let done = still-passed _ _ _ _ _ (idle-still _) in
     rw (c .before .enum-told .given .1, c .stood-by .ensures) (done .result, done .exit))  -- returns
@@ -57,6 +59,9 @@ pass-spec =
     (λ c. search needs)  -- same-length-9
     (λ c. search needs)  -- same-length-10
     (λ c. rw (c .before .before .before .before .before .before .operation6 .given .1) (c .before .before .pass-erase2 .ensures))  -- returns-8
+    (λ c.
+    let done = still-passed _ _ _ _ _ (entered-still _) in
+    rw (c .before .enum-told3 .given .1, c .stood-by3 .ensures) (done .result, done .exit))  -- returns-9
     (λ c. search needs)  -- same-length-11
     (λ c. search needs)  -- same-length-12
-    (λ c. rw (c .before .before .before .before .before .before .before .before .operation7 .given .1) (c .before .before .before .before .pass-entered .ensures)))  -- returns-9
+    (λ c. rw (c .before .before .before .before .before .before .before .before .operation7 .given .1) (c .before .before .before .before .pass-one-time .ensures)))  -- returns-10

@@ -25,6 +25,7 @@ begun-block-spec =
     (λ c κs. tt)  -- chip-time-requires
     (λ c κs. tt)  -- if-begun-requires-4
     (λ c. search needs)  -- enum-told-5
+    (λ c. search needs)  -- enum-told-6
     (λ c. rw (c .enum-told .given .1))  -- returns
     (λ c. rw (c .enum-told2 .given .1))  -- returns-2
     (λ c. rw (c .enum-told3 .given .1))  -- returns-3
@@ -33,4 +34,5 @@ begun-block-spec =
     (λ c. rw (c .if-begun2 .ensures, c .before .erase-time2 .ensures, c .before .before .before .before .operation2 .given .1))  -- returns-6
     (λ c. rw (c .if-begun3 .ensures, c .before .erase-time3 .ensures, c .before .before .before .before .operation3 .given .1))  -- returns-7
     (λ c. rw (c .if-begun4 .ensures, c .before .chip-time .ensures, c .before .before .before .operation4 .given .1))  -- returns-8
-    (λ c. rw (c .enum-told5 .given .1)))  -- returns-9
+    (λ c. rw (c .enum-told5 .given .1))  -- returns-9
+    (λ c. rw (c .enum-told6 .given .1)))  -- returns-10

@@ -19,8 +19,9 @@ begun-program-spec =
     (λ c. search needs)  -- enum-known-operation-3
     (λ c κs. tt)  -- begun-inside-requires
     (λ c. search needs)  -- enum-told-5
+    (λ c. search needs)  -- enum-told-6
     (λ c. search needs)  -- enum-known-operation-4
-    (λ c κs. tt)  -- begun-inside-requires-2
+    (λ c κs. tt)  -- program-begun-requires-3
     (λ c. rw (c .enum-told .given .1))  -- returns
     (λ c. rw (c .program-begun .ensures, c .before .before .operation .given .1))  -- returns-2
     (λ c. rw (c .program-begun2 .ensures, c .before .before .operation2 .given .1))  -- returns-3
@@ -29,4 +30,5 @@ begun-program-spec =
     (λ c. rw (c .enum-told4 .given .1))  -- returns-6
     (λ c. rw (c .begun-inside .ensures, c .before .before .operation3 .given .1))  -- returns-7
     (λ c. rw (c .enum-told5 .given .1))  -- returns-8
-    (λ c. rw (c .begun-inside2 .ensures, c .before .before .operation4 .given .1)))  -- returns-9
+    (λ c. rw (c .enum-told6 .given .1))  -- returns-9
+    (λ c. rw (c .program-begun3 .ensures, c .before .before .operation4 .given .1)))  -- returns-10

@@ -18,6 +18,7 @@ rested-spec =
     (λ c κs. tt)  -- rest-flipped-requires
     (λ c. search needs)  -- enum-told-7
     (λ c. search needs)  -- enum-told-8
+    (λ c. search needs)  -- enum-told-9
     (λ c. rw (c .enum-told .given .1))  -- returns
     (λ c. rw (c .enum-told2 .given .1))  -- returns-2
     (λ c. rw (c .enum-told3 .given .1))  -- returns-3
@@ -26,4 +27,5 @@ rested-spec =
     (λ c. rw (c .enum-told6 .given .1))  -- returns-6
     (λ c. rw (c .rest-flipped .ensures, c .before .before .operation .given .1))  -- returns-7
     (λ c. rw (c .enum-told7 .given .1))  -- returns-8
-    (λ c. rw (c .enum-told8 .given .1)))  -- returns-9
+    (λ c. rw (c .enum-told8 .given .1))  -- returns-9
+    (λ c. rw (c .enum-told9 .given .1)))  -- returns-10
