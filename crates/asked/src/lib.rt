@@ -11,7 +11,7 @@ const NONE: u64 = 0xffffffffffffffff;
 pub fn is_sound(part: u64, words: &[u64]) -> bool
     ensures { λ r. ⌜ r ≡ standsSound part (now (words .entry)) ⌝ }
 {
-    if image::is_idle(words) {
+    if shape::is_idle(words) {
         return idling::is_sound(part, words);
     }
     stands_sound(part, words)
@@ -60,7 +60,7 @@ pub fn exposed_block(part: u64, words: &[u64]) -> u64
     ensures { λ r. ⌜ r ≡ faceExposedBlock part (now (words .entry)) ⌝ }
 {
     // It has begun nothing.
-    if image::is_idle(words) {
+    if shape::is_idle(words) {
         return NONE;
     }
     if !calls::stands(part, words) {
@@ -74,7 +74,7 @@ pub fn exposed_block(part: u64, words: &[u64]) -> u64
 pub fn exposed_word(part: u64, words: &[u64]) -> u64
     ensures { λ r. ⌜ r ≡ faceExposedWord part (now (words .entry)) ⌝ }
 {
-    if image::is_idle(words) {
+    if shape::is_idle(words) {
         return NONE;
     }
     if !calls::stands(part, words) {
@@ -88,7 +88,7 @@ pub fn exposed_word(part: u64, words: &[u64]) -> u64
 pub fn exposed_array(part: u64, words: &[u64]) -> u64
     ensures { λ r. ⌜ r ≡ faceExposedArray part (now (words .entry)) ⌝ }
 {
-    if image::is_idle(words) {
+    if shape::is_idle(words) {
         return NONE;
     }
     if !calls::stands(part, words) {
@@ -106,7 +106,7 @@ pub fn reads_cells(part: u64, words: &[u64], bank: usize) -> bool
     if !calls::is_part(part) {
         return gives_cells(part, words, bank);
     }
-    if image::is_idle(words) {
+    if shape::is_idle(words) {
         if calls::part_named(part).banks() <= bank {
             return false;
         }
@@ -132,7 +132,7 @@ fn gives_cells(part: u64, words: &[u64], bank: usize) -> bool
 pub fn clock(part: u64, words: &[u64]) -> u64
     ensures { λ r. ⌜ r ≡ faceClock part (now (words .entry)) ⌝ }
 {
-    if image::is_idle(words) {
+    if shape::is_idle(words) {
         if !idling::is_sound(part, words) {
             return NONE;
         }
@@ -147,7 +147,7 @@ pub fn clock(part: u64, words: &[u64]) -> u64
 pub fn charge(part: u64, words: &[u64]) -> u64
     ensures { λ r. ⌜ r ≡ faceCharge part (now (words .entry)) ⌝ }
 {
-    if image::is_idle(words) {
+    if shape::is_idle(words) {
         if !idling::is_sound(part, words) {
             return NONE;
         }

@@ -30,7 +30,7 @@ pub fn stands(part: u64, words: &[u64]) -> bool
     if !is_part(part) {
         return false;
     }
-    image::is_well_formed(words)
+    shape::is_well_formed(words)
 }
 
 // "the word in the low 16 bits, the refusal above them"

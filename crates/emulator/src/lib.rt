@@ -39,7 +39,7 @@ pub extern "C" fn k5l_read(
     if !calls::is_part(part) {
         return bus::read(part, words, cells, otp, address);
     }
-    if image::is_idle(words) {
+    if shape::is_idle(words) {
         return idling::read(part, words, cells, otp, address);
     }
     bus::read(part, words, cells, otp, address)
@@ -60,7 +60,7 @@ pub extern "C" fn k5l_write(
     if !calls::is_part(part) {
         return bus::write(part, words, cells, otp, address, word);
     }
-    if image::is_idle(words) {
+    if shape::is_idle(words) {
         return idling::write(part, words, cells, otp, address, word);
     }
     bus::write(part, words, cells, otp, address, word)
@@ -82,7 +82,7 @@ pub extern "C" fn k5l_wait(
     if !calls::is_part(part) {
         return lapses::wait(part, words, cells, otp, microseconds);
     }
-    if image::is_idle(words) {
+    if shape::is_idle(words) {
         return idling::wait(part, words, cells, otp, microseconds);
     }
     lapses::wait(part, words, cells, otp, microseconds)

@@ -1,12 +1,11 @@
-// From the words that a C program holds to the record: do they stand for one, for an idle one, and for which?
+// From the words that a C program holds to the record that they stand for.
 ghost use mathlib.Core.Path.{_≡_};
 ghost use lib.ListN.{length};
 ghost use Rattle.layout.specs.Places.{recordWords};
 ghost use Rattle.plain.specs.Record.{device};
 ghost use Rattle.layout.specs.Commands.{commandOf};
-ghost use Rattle.layout.specs.Image.{marked, wellFormed, idleWords, meterOf, bitsOf, commandWordsOf, deviceOf};
+ghost use Rattle.layout.specs.Image.{meterOf, bitsOf, commandWordsOf, deviceOf};
 
-mod forms;
 mod parts;
 mod sections;
 
@@ -19,58 +18,6 @@ use numbers::operations::program_and_erase;
 use plain::Device;
 use plain::Operation;
 use protection::Protection;
-
-// Do the words stand for a record? Whether that record is sound is another question.
-pub fn is_well_formed(words: &[u64]) -> bool
-    ensures { λ r. ⌜ r ≡ wellFormed (now (words .entry)) ⌝ }
-{
-    if !is_marked(words) {
-        return false;
-    }
-    if !forms::command_fits(words[layout::COMMAND_AT], words[layout::PLACE_AT]) {
-        return false;
-    }
-    if !forms::operation_fits(words) {
-        return false;
-    }
-    if !forms::recovery_fits(words) {
-        return false;
-    }
-    forms::entered_fits(words)
-}
-
-// Do they stand for an idle device? It is asked first at each event, as the most common case.
-pub fn is_idle(words: &[u64]) -> bool
-    ensures { λ r. ⌜ r ≡ idleWords (now (words .entry)) ⌝ }
-{
-    if !is_marked(words) {
-        return false;
-    }
-    // The numbers of a command and of an operation first: they tell nearly every device that is not idle.
-    if !sections::are_unused(words, layout::COMMAND_AT, layout::LIST_AT) {
-        return false;
-    }
-    if !sections::are_unused(words, layout::LIST_AT, layout::DYB_AT) {
-        return false;
-    }
-    sections::are_unused(words, layout::RECOVERY_AT, layout::SEALED_AT)
-}
-
-// As many words as a record has, with the layout's number, and one bit for each lock.
-fn is_marked(words: &[u64]) -> bool
-    ensures { λ r. ⌜ r ≡ marked (now (words .entry)) ⌝ }
-{
-    if words.len() != layout::RECORD_WORDS {
-        return false;
-    }
-    if words[layout::LAYOUT_AT] != layout::LAYOUT {
-        return false;
-    }
-    if 2 <= words[layout::LOCK_AT] {
-        return false;
-    }
-    words[layout::SEALED_AT] < 2
-}
 
 // Each way takes out only what its operation uses.
 pub fn device_of(words: &[u64]) -> Device

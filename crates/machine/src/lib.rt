@@ -59,7 +59,7 @@ pub fn write(
     ensures { λ r. ⌜ r ≡ writeEvent part device (lent (now (cells .entry)) (now (otp .entry))) address word .answer ⌝ }
 {
     let effect = access::write(part, device, cells, otp, address, word);
-    register::effected(device, effect)
+    afterwards::effected(device, effect)
 }
 
 pub fn wait(

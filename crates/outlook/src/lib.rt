@@ -85,7 +85,7 @@ fn idle_figure(part: u64, words: &[u64]) -> u64
 pub fn until_end(part: u64, words: &[u64]) -> u64
     ensures { λ r. ⌜ r ≡ faceUntilEnd part (now (words .entry)) ⌝ }
 {
-    if image::is_idle(words) {
+    if shape::is_idle(words) {
         return idle_figure(part, words);
     }
     if !calls::stands(part, words) {
@@ -97,7 +97,7 @@ pub fn until_end(part: u64, words: &[u64]) -> u64
 pub fn until_change(part: u64, words: &[u64]) -> u64
     ensures { λ r. ⌜ r ≡ faceUntilChange part (now (words .entry)) ⌝ }
 {
-    if image::is_idle(words) {
+    if shape::is_idle(words) {
         return NONE;
     }
     if !calls::stands(part, words) {
@@ -109,7 +109,7 @@ pub fn until_change(part: u64, words: &[u64]) -> u64
 pub fn changing_block(part: u64, words: &[u64]) -> u64
     ensures { λ r. ⌜ r ≡ faceChangingBlock part (now (words .entry)) ⌝ }
 {
-    if image::is_idle(words) {
+    if shape::is_idle(words) {
         return NONE;
     }
     if !calls::stands(part, words) {
@@ -121,7 +121,7 @@ pub fn changing_block(part: u64, words: &[u64]) -> u64
 pub fn changing_word(part: u64, words: &[u64]) -> u64
     ensures { λ r. ⌜ r ≡ faceChangingWord part (now (words .entry)) ⌝ }
 {
-    if image::is_idle(words) {
+    if shape::is_idle(words) {
         return NONE;
     }
     if !calls::stands(part, words) {
@@ -133,7 +133,7 @@ pub fn changing_word(part: u64, words: &[u64]) -> u64
 pub fn changing_array(part: u64, words: &[u64]) -> u64
     ensures { λ r. ⌜ r ≡ faceChangingArray part (now (words .entry)) ⌝ }
 {
-    if image::is_idle(words) {
+    if shape::is_idle(words) {
         return NONE;
     }
     if !calls::stands(part, words) {
@@ -145,7 +145,7 @@ pub fn changing_array(part: u64, words: &[u64]) -> u64
 pub fn debris_needed(part: u64, words: &[u64]) -> u64
     ensures { λ r. ⌜ r ≡ faceDebrisNeeded part (now (words .entry)) ⌝ }
 {
-    if image::is_idle(words) {
+    if shape::is_idle(words) {
         return idle_figure(part, words);
     }
     if !calls::stands(part, words) {

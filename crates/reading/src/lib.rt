@@ -20,8 +20,8 @@ pub fn look(part: Part, device: Device, cells: &[u16], otp: &[u16], address: usi
     ensures { λ r. ⌜ r ≡ look part (device .bits) (device .command) (device .operation) (lent (now (cells .entry)) (now (otp .entry))) address ⌝ }
 {
     let operation = device.operation;
-    if status::polls(part, operation, address) {
-        let after = status::polled(part, operation, address);
+    if polling::polls(part, operation, address) {
+        let after = polling::polled(part, operation, address);
         return Seen {
             word: status::status_of(after),
             operation: after,

@@ -6,9 +6,6 @@ ghost use Rattle.plain.specs.declared.Operation.the-variants.{Idle};
 ghost use Rattle.layout.specs.Places.{recordWords};
 ghost use Rattle.layout.specs.Image.{imageOf};
 ghost use Rattle.layout.specs.Stored.{withMeter, withCommand, withBlocks, withErase, withProgram, withParts, withOperation, withToggles, withBits};
-
-mod toggles;
-
 use blocks::Blocks;
 use layout::OperationParts;
 use meter::Meter;
@@ -71,7 +68,7 @@ fn put_erase(words: &mut [u64], erase: Erase)
     put_blocks(words, layout::LIST_AT, erase.list);
     words[layout::HAND_AT] = erase.hand as u64;
     words[layout::ERASE_LEFT_AT] = erase.left;
-    words[layout::TOGGLES_AT] = toggles::toggles(erase);
+    words[layout::TOGGLES_AT] = toggles::word_of(erase);
 }
 
 fn put_program(words: &mut [u64], program: Program)

@@ -1,7 +1,7 @@
 use lib.ListN.{length-set}
 use borrow.Author.Needs.{needs}
 use Rattle.layout.specs.Stored.{withBits}
-use Rattle.storing.proofs.Flags.{flag-byte}
+use Rattle.toggles.proofs.Flags.{flag-byte}
 use Rattle.storing.proofs.put_bits.Statement.{statement}
 use Rattle.storing.proofs.put_bits.Tie as tie
 

@@ -14,7 +14,7 @@ put-erase-spec =
     (λ c κs. search needs)  -- put-blocks-requires
     (λ c. search needs)  -- slice-write-words
     (λ c. search needs)  -- slice-write-words-2
-    (λ c κs. search needs)  -- toggles-requires
+    (λ c κs. search needs)  -- word-of-requires
     (λ c. simp length-set (rw (c .before .before .before .put-blocks .ensures, long-blocks) (omega (arith, c .before .before .before .before .before .before .pre))))  -- slice-write-words-3
     (λ c. search needs)  -- same-length
-    (λ c. rw (c .toggles .ensures, c .before .before .before .put-blocks .ensures)))  -- returns
+    (λ c. rw (c .word-of .ensures, c .before .before .before .put-blocks .ensures)))  -- returns

@@ -1,6 +1,6 @@
 use lib.ListN.{length-set}
 use borrow.Author.Needs.{needs}
-use Rattle.storing.proofs.Flags.{flag-byte}
+use Rattle.toggles.proofs.Flags.{flag-byte}
 use Rattle.storing.proofs.put_parts.Statement.{statement}
 use Rattle.storing.proofs.put_parts.Tie as tie
 

@@ -1,6 +1,6 @@
 use borrow.Author.Needs.{needs}
 use Rattle.layout.specs.Stored.{withProgram}
-use Rattle.storing.proofs.Flags.{flag-byte}
+use Rattle.toggles.proofs.Flags.{flag-byte}
 use Rattle.storing.proofs.put_program.Statement.{statement}
 use Rattle.storing.proofs.put_program.Tie as tie
 
