@@ -73,6 +73,10 @@ enum {
  * it finds the block done: such a 30H within the 20 us is K5L_BUSY and lost, and the erase stays suspended. Before 30H, too, poll until
  * DQ6 rests. */
 
+/* A bank's secret stays in it. Two devices that differ in the cells of one bank alone answer the same calls alike, and their records are the
+ * same after each, as long as no program's data is written to an address of that bank: only a read or a range that gives cells of that bank
+ * can differ. */
+
 /* The one-time block: 256 words besides the cells, in both parts. The first 128 are the factory's: fill them as it would, no event changes
  * them. The others, from K5L_OTP_CUSTOMER on, take programs as cells do, and no erase, until they are locked, all at once and for ever. They
  * belong to no block: no DYB and no PPB protects them. Who never enters the one-time block lends 256 words more, whatever they hold, and
@@ -174,7 +178,9 @@ uint64_t k5l_read(uint64_t part, uint64_t *record, size_t words, const uint16_t 
 uint64_t k5l_write(uint64_t part, uint64_t *record, size_t words, const uint16_t *cells, size_t length, const uint16_t *otp,
                    size_t otp_length, uint64_t address, uint16_t word) K5L_MUST_USE;
 
-/* Lets time pass: the refusal. What finishes within it changes its cells, or its one-time word. */
+/* Lets time pass: the refusal. What finishes within it changes its cells, or its one-time word. Wake early as often as you like: if a wait
+ * of a + b is K5L_DONE, so are waits of a and then of b, with the same record and words after them, and so the same clock and charge; and
+ * where both are, the one is. */
 uint64_t k5l_wait(uint64_t part, uint64_t *record, size_t words, uint16_t *cells, size_t length, uint16_t *otp, size_t otp_length,
                   uint64_t microseconds) K5L_MUST_USE;
 

@@ -21,12 +21,6 @@ enum { REFUSALS = K5L_RAISE + 1 };
 /* How often each answer was met; and the events by operation, outside the one-time block and inside, where a program is of either array. */
 static unsigned long refusals[REFUSALS], operations[MODEL_OPERATIONS], inside, inside_programs[2], ranges[2];
 
-static uint16_t blank_or_random(uint64_t address)
-{
-    (void)address;
-    return once_in(4) ? 0xFFFF : (uint16_t)dice();
-}
-
 static void tally(const struct model_record *record, const struct event *event, uint64_t answer)
 {
     operations[record->operation]++;
@@ -49,29 +43,6 @@ static void put(struct pair *pair, const struct event *event)
     HOLDS(!before.sealed || now(pair).sealed);
 }
 
-/* An event on what is lent wrongly: a length, or a record with a bit flipped, which may then still be sound. */
-static void put_wrongly(struct pair *pair, const struct event *event)
-{
-    struct pair wrong = *pair;
-    uint64_t word = below(K5L_RECORD_WORDS);
-
-    switch (below(4)) {
-    case 0: wrong.length = once_in(2) ? wrong.length - 1 : below(wrong.length); break;
-    case 1: wrong.otp_length = once_in(2) ? K5L_OTP_WORDS + 1 : below(K5L_OTP_WORDS); break;
-    default: wrong.image[word] ^= (uint64_t)1 << (once_in(4) ? below(2) : below(64));
-    }
-    put(&wrong, event);
-}
-
-/* Another board: one-time words that can still be written, and no lock. */
-static void renew_one_time(struct pair *pair)
-{
-    for (unsigned i = 0; i < K5L_OTP_WORDS; i++)
-        pair->otp[i] = pair->model_otp[i] = blank_or_random(i);
-    pair->image[31] = 0;
-}
-
-/* At the clock's limit a device has nothing more to show; a new one takes its place. */
 static void run(uint64_t part, unsigned long events)
 {
     struct pair pair = pair_make(part);
@@ -81,17 +52,13 @@ static void run(uint64_t part, unsigned long events)
     for (unsigned long i = 0; i < events; i++) {
         struct event event = some_event(&pair);
 
-        if (once_in(200))
-            put_wrongly(&pair, &event);
-        put(&pair, &event);
-        if (pair.image[5] == MODEL_PROGRAM && pair.image[30] == 0 && once_in(20))
-            pair.image[5] = MODEL_SUSPENDED_PROGRAM; /* as an older device stored it */
-        if (once_in(1000))
-            renew_one_time(&pair);
-        if (pair.image[1] > 99999999000000 && once_in(100)) {
-            SAME(k5l_fresh(pair.image, pair.words), K5L_DONE);
-            forget_plan();
+        if (once_in(200)) {
+            struct pair wrong = lent_wrongly(&pair);
+
+            put(&wrong, &event);
         }
+        put(&pair, &event);
+        something_befalls(&pair);
     }
     pair_cells(&pair);
     pair_free(&pair);

@@ -51,7 +51,7 @@ void pair_fill(struct pair *pair, uint16_t (*word_at)(uint64_t address))
 /* An event's answer has its refusal above bit 16, a range's above bit 33. */
 static unsigned shift_of(const struct event *event) { return event->kind == EVENT_RANGE ? 33 : 16; }
 
-static uint64_t of_library(struct pair *p, const struct event *e)
+uint64_t pair_library(struct pair *p, const struct event *e)
 {
     switch (e->kind) {
     case EVENT_READ: return k5l_read(p->part, p->image, p->words, p->cells, p->length, p->otp, p->otp_length, e->number);
@@ -93,7 +93,7 @@ static void tell_record(const uint64_t *image)
     check_note("\n");
 }
 
-static void tell(const struct pair *p, const uint64_t *before, const struct event *event)
+void pair_tell(const struct pair *p, const uint64_t *before, const struct event *event)
 {
     static const char *const names[] = { "read", "write", "range", "wait", "cut" };
 
@@ -104,7 +104,7 @@ static void tell(const struct pair *p, const uint64_t *before, const struct even
     tell_record(before);
 }
 
-static bool same_images(const uint64_t *got, const uint64_t *expected)
+bool same_images(const uint64_t *got, const uint64_t *expected)
 {
     bool same = SAME(memcmp(got, expected, PAIR_IMAGE_WORDS * sizeof *got) != 0, 0);
 
@@ -114,31 +114,31 @@ static bool same_images(const uint64_t *got, const uint64_t *expected)
     return same;
 }
 
-/* Two arrays of so many words, what lies around them included. */
-static bool same_words(const char *what, const uint16_t *got, const uint16_t *expected, size_t room)
+bool same_words(const char *what, const uint16_t *got, const uint16_t *expected, ptrdiff_t from, ptrdiff_t end)
 {
-    bool same = SAME(memcmp(got, expected, room * sizeof *got) != 0, 0);
+    size_t words = from < end ? (size_t)(end - from) : 0;
+    bool same = SAME(memcmp(got + from, expected + from, words * sizeof *got) != 0, 0);
 
-    for (size_t i = 0; !same && i < room; i++)
+    for (ptrdiff_t i = from; !same && i < end; i++)
         if (got[i] != expected[i]) {
-            check_note("  %s %zd is %04X, expected %04X\n", what, (ptrdiff_t)i - PAIR_GUARD, got[i], expected[i]);
+            check_note("  %s %td is %04X, expected %04X\n", what, i, got[i], expected[i]);
             break;
         }
     return same;
 }
 
+/* What lies around the words is compared, too. */
 bool pair_cells(const struct pair *pair)
 {
-    return same_words("cell", pair->cells - PAIR_GUARD, pair->model_cells - PAIR_GUARD, pair->room);
+    return same_words("cell", pair->cells, pair->model_cells, -PAIR_GUARD, (ptrdiff_t)pair->room - PAIR_GUARD);
 }
 
 bool pair_otp(const struct pair *pair)
 {
-    return same_words("one-time word", pair->otp - PAIR_GUARD, pair->model_otp - PAIR_GUARD, PAIR_OTP_ROOM);
+    return same_words("one-time word", pair->otp, pair->model_otp, -PAIR_GUARD, PAIR_OTP_ROOM - PAIR_GUARD);
 }
 
-/* Only a wait or a cut changes cells, and then an operation or a block of it has ended. */
-static bool may_have_changed_cells(const struct event *event, const uint64_t *before, const uint64_t *after)
+bool may_have_changed_cells(const struct event *event, const uint64_t *before, const uint64_t *after)
 {
     return event->kind >= EVENT_WAIT && (before[5] != after[5] || before[11] != after[11]);
 }
@@ -163,14 +163,14 @@ uint64_t pair_event(struct pair *pair, const struct event *event)
         answer = of_model(pair, &record, event);
         image_encode(&record, expected);
     }
-    same = SAME(of_library(pair, event), answer);
+    same = SAME(pair_library(pair, event), answer);
     same &= same_images(pair->image, expected);
     same &= same_lookups(pair->part, event->number);
     same &= pair_otp(pair);
     if ((event->kind >= EVENT_WAIT && pair->room < K5L_FULL_WORDS) || may_have_changed_cells(event, before, expected))
         same &= pair_cells(pair);
     if (!same) {
-        tell(pair, before, event);
+        pair_tell(pair, before, event);
         memcpy(pair->image, expected, sizeof expected);
         memcpy(pair->cells - PAIR_GUARD, pair->model_cells - PAIR_GUARD, pair->room * sizeof *pair->cells);
         memcpy(pair->otp - PAIR_GUARD, pair->model_otp - PAIR_GUARD, PAIR_OTP_ROOM * sizeof *pair->otp);

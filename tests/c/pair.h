@@ -39,11 +39,24 @@ void pair_fill(struct pair *pair, uint16_t (*word_at)(uint64_t address));
 /* Puts the event to both and compares; the answer is the model's, the refusal above the word. */
 uint64_t pair_event(struct pair *pair, const struct event *event);
 
+/* Puts the event to the library alone; its answer has the refusal above bit 16, a range's above bit 33. */
+uint64_t pair_library(struct pair *pair, const struct event *event);
+
 /* Puts every question about the record to both and compares. */
 void pair_questions(const struct pair *pair);
 
 /* Compares all the cells, and all the one-time words. */
 bool pair_cells(const struct pair *pair);
 bool pair_otp(const struct pair *pair);
+
+/* Compares two images; and two arrays, from one word to before another. */
+bool same_images(const uint64_t *got, const uint64_t *expected);
+bool same_words(const char *what, const uint16_t *got, const uint16_t *expected, ptrdiff_t from, ptrdiff_t end);
+
+/* Only a wait or a cut changes cells, and then an operation or a block of it has ended. */
+bool may_have_changed_cells(const struct event *event, const uint64_t *before, const uint64_t *after);
+
+/* After a check that was wrong: the event, and the image that it came to. */
+void pair_tell(const struct pair *pair, const uint64_t *before, const struct event *event);
 
 #endif

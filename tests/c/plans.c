@@ -1,6 +1,7 @@
 /* See plans.h. */
 #include "plans.h"
 
+#include "check.h"
 #include "commands.h"
 #include "dice.h"
 
@@ -77,4 +78,46 @@ struct event some_event(const struct pair *pair)
     if (runs && event.kind == EVENT_WRITE && !once_in(3))
         event.word = 0xB0;
     return event;
+}
+
+uint16_t blank_or_random(uint64_t address)
+{
+    (void)address;
+    return once_in(4) ? 0xFFFF : (uint16_t)dice();
+}
+
+struct pair lent_wrongly(const struct pair *pair)
+{
+    struct pair wrong = *pair;
+    uint64_t word = below(K5L_RECORD_WORDS);
+
+    switch (below(4)) {
+    case 0: wrong.length = once_in(2) ? wrong.length - 1 : below(wrong.length); break;
+    case 1: wrong.otp_length = once_in(2) ? K5L_OTP_WORDS + 1 : below(K5L_OTP_WORDS); break;
+    default: wrong.image[word] ^= (uint64_t)1 << (once_in(4) ? below(2) : below(64));
+    }
+    return wrong;
+}
+
+static void renew_one_time(struct pair *pair)
+{
+    for (unsigned i = 0; i < K5L_OTP_WORDS; i++)
+        pair->otp[i] = pair->model_otp[i] = blank_or_random(i);
+    pair->image[31] = 0;
+}
+
+bool something_befalls(struct pair *pair)
+{
+    bool suspended = pair->image[5] == MODEL_PROGRAM && pair->image[30] == 0 && once_in(20), renewed = once_in(1000), ended;
+
+    if (suspended)
+        pair->image[5] = MODEL_SUSPENDED_PROGRAM;
+    if (renewed)
+        renew_one_time(pair);
+    ended = pair->image[1] > 99999999000000 && once_in(100);
+    if (ended) {
+        SAME(k5l_fresh(pair->image, pair->words), K5L_DONE);
+        forget_plan();
+    }
+    return suspended || renewed || ended;
 }

@@ -15,6 +15,9 @@ pub mod SuspendedProgram
 pub mod Raise
 pub mod OneTime
 pub mod Ranges
+pub mod CallRuns
+pub mod OneWait
+pub mod Banks
 pub mod Foreseen
 pub mod CallTold
 pub mod CallForeseen

@@ -8,6 +8,8 @@ pub mod CallCarried
 pub mod Raise
 pub mod OneTime
 pub mod Ranges
+pub mod OneWait
+pub mod Banks
 pub mod Mapped
 pub mod Foreseen
 pub mod CallForeseen

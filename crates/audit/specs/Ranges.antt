@@ -35,10 +35,12 @@ RangesLieCode p =
 
 -- ---- through C: "refusal << 33 | array << 32 | first word"; those words are the plain machine's, and lie in the array
 
+abbrev pub handedAt : (answer count : ℕ) → Lent → List ℕ
+handedAt n count l = take count (drop (n % 4294967296) (if eqb (n / 4294967296) 1 then l .otp else l .cells))
+
 abbrev pub RangesLieCalls : Type 0
 RangesLieCalls =
     (part : ℕ) (words : List ℕ) (l : Lent) (first count : ℕ) (t : Lfts 3) (at by of : Location) (n : ℕ)
     → CRange.Learnt t (part, (slice at words, slices by of l (first, (count, tt)))) n (part, (slice at words, slices by of l (first, (count, tt))))
     → n < 8589934592
-    → let lie = take count (drop (n % 4294967296) (if eqb (n / 4294967296) 1 then l .otp else l .cells)) in
-    (length lie ≡ count) × (lie ≡ rangeWords (partNamed part) (deviceOf words) l first count)
+    → (length (handedAt n count l) ≡ count) × (handedAt n count l ≡ rangeWords (partNamed part) (deviceOf words) l first count)

@@ -1,9 +1,8 @@
 -- Every event on a sound record leaves a sound one, and is not answered STATE.
-use Prim.Native.Nat.{ℕ, _+_, _≤_}
+use Prim.Native.Nat.{ℕ}
 use mathlib.Core.Path.{_≡_, refl, _∙_}
 use mathlib.Core.Bool.{Bool, true, false}
 use mathlib.Core.List.{List}
-use native.Mathlib.Omega.{arith}
 use borrow.Author.Tests.{leb-true, not-false}
 use Rattle.geometry.specs.declared.Part.{Part}
 use Rattle.protection.specs.declared.Protection.{Protection}
@@ -19,20 +18,18 @@ use Rattle.plain.specs.declared.Effect.{Effect}
 use Rattle.plain.specs.declared.Effect.the-variants.{Goes, Starts, Protects, Falls, Stays, Drops}
 use Rattle.plain.specs.declared.Device.{Device}
 use Rattle.plain.specs.Events.{Event, read, write, wait, cut, range}
-use Rattle.plain.specs.Figures.{clockLimit}
 use Rattle.plain.specs.Lent.{Lent}
 use Rattle.plain.specs.Record.{device, answer}
 use Rattle.plain.specs.Refusals.{number}
 use Rattle.plain.specs.Sound.{meterSound, operationSound, commandSound, sound}
 use Rattle.plain.specs.Commands.{effected}
-use Rattle.plain.specs.Time.{Moment, ticks}
-use Rattle.plain.specs.Machine.{Outcome, outcome, refused, ladder, now, waited, handsBack, readEvent, writeEvent, waitEvent, cutEvent, rangeEvent, step, Fit}
+use Rattle.plain.specs.Machine.{Outcome, outcome, refused, ladder, handsBack, readEvent, writeEvent, waitEvent, cutEvent, rangeEvent, step, Fit}
 use Rattle.plain.proofs.Tools.{by-test, clash, neither-left}
 use Rattle.plain.proofs.Facts.{sound-clock, sound-charge, sound-bits, sound-operation, sound-command}
 use Rattle.plain.proofs.FactsHold.{meter-holds, sound-holds, idle-holds}
 use Rattle.plain.proofs.Ladder.{by-ladder}
 use Rattle.plain.proofs.Register.{ground-sound}
-use Rattle.plain.proofs.SoundTime.{ticks-going, ticks-clock}
+use Rattle.plain.proofs.SoundTime.{waited-sound}
 use Rattle.history.proofs.Fine.{never, Fine, goes, starts, protects, falls, raised, stays, drops}
 use Rattle.history.proofs.KeptWrite.{write-fine}
 use Rattle.history.proofs.KeptRead.{look-alike}
@@ -90,19 +87,7 @@ module _ (p : Part) (r : Device) (s : sound p r ≡ true) (l : Lent) where
 
   wait-kept : (n : ℕ) → Kept p (waitEvent p r l n)
   unfolding waitEvent number
-  wait-kept n = kept _ Clock _ refl (λ _ h. waits (leb-true _ _ (not-false _ h)))
-    where
-      after : Moment
-      after = ticks p n (now r l)
-
-      waits : r .meter .clock + n ≤ clockLimit p → Kept p (waited r after)
-      waits h =
-          let g = ticks-going p (r .bits) (r .command) n (now r l) (record { charge = sound-charge p r s; operation = operation-sound; command = sound-command p r s }) in
-          record {
-            device = sound-holds p (after .meter) (r .command) (after .operation) (r .bits)
-                (meter-holds p (after .meter) (omega (arith, ticks-clock p n (now r l), h)) (g .charge)) (sound-bits p r s) (g .operation) (g .command);
-            refusal = refl;
-          }
+  wait-kept n = kept _ Clock _ refl (λ _ h. record { device = waited-sound p r l n s (leb-true _ _ (not-false _ h)); refusal = refl })
 
   cut-kept : (debris : List ℕ) → Kept p (cutEvent p r l debris)
   unfolding cutEvent number

@@ -21,6 +21,8 @@ pub mod Runs
 pub mod Begun
 pub mod Spared
 pub mod Demand
+pub mod Woken
+pub mod Banks
 pub mod Taken
 pub mod Judged
 pub mod WaysOut

@@ -12,9 +12,8 @@ use Rattle.plain.specs.declared.Device.{Device}
 use Rattle.plain.specs.declared.Entry.the-variants.{Barred}
 use Rattle.plain.specs.Figures.{clockLimit}
 use Rattle.plain.specs.Lent.{Lent}
-use Rattle.plain.specs.Time.{ticks}
 use Rattle.plain.specs.Cut.{debrisNeeded}
-use Rattle.plain.specs.Machine.{refused, entry, Fit, now, waited, readTaken, writeTaken, cutTaken, readEvent, writeEvent, waitEvent, cutEvent}
+use Rattle.plain.specs.Machine.{refused, entry, Fit, readTaken, writeTaken, waitTaken, cutTaken, readEvent, writeEvent, waitEvent, cutEvent}
 use Rattle.plain.proofs.Ladder.{entry-admitted, ladder-barred, ladder-own, ladder-taken}
 
 module _ (p : Part) (r : Device) (l : Lent) where
@@ -53,7 +52,7 @@ module _ (p : Part) (r : Device) (l : Lent) where
     unfolding waitEvent
     wait-clock f h = ladder-own p r l _ Clock _ (entry-admitted p r l f) (rw (lt-leb (r .meter .clock + n) (clockLimit p) h))
 
-    pub wait-passes : Fit p r l → r .meter .clock + n ≤ clockLimit p → waitEvent p r l n ≡ waited r (ticks p n (now r l))
+    pub wait-passes : Fit p r l → r .meter .clock + n ≤ clockLimit p → waitEvent p r l n ≡ waitTaken p r l n
     unfolding waitEvent
     wait-passes f h =
         ladder-taken p r l _ Clock _ (entry-admitted p r l f) (rw (le-leb (r .meter .clock + n) (clockLimit p) h))

@@ -1,6 +1,6 @@
 -- The checks that every event begins with, told once: what each rung comes to, and what holds of an event if it holds on each.
 use Prim.Native.Nat.{ℕ}
-use mathlib.Core.Path.{_≡_}
+use mathlib.Core.Path.{_≡_, sym, _∙_}
 use mathlib.Core.Bool.{Bool, true, false}
 use native.Mathlib.Omega.{arith}
 use Rattle.geometry.specs.declared.Part.{Part}
@@ -65,3 +65,24 @@ module _ (p : Part) (r : Device) (l : Lent) where
     by-ladder P f g h k =
         by-entry (λ s. rw (ladder-barred State (entry-state s)) (f s)) (λ s n. rw (ladder-barred Cells (entry-cells s n)) g)
         (λ fit. by-cases fails (λ t. rw (ladder-own (entry-admitted fit) t) (h fit)) (λ t. rw (ladder-taken (entry-admitted fit) t) (k fit t)))
+
+-- ---- the same record, and other words lent: the checks come out alike where both are whole, or neither is
+
+module _ (p : Part) (r : Device) (l m : Lent) (many : isWhole p l ≡ isWhole p m) where
+  entry-alike : entry p r l ≡ entry p r m
+  unfolding entry
+  entry-alike = rw many
+
+  pub by-both : (Q : Outcome → Outcome → Type 0) (fails : Bool) (own : Refusal) (one two : Outcome) → ((n : Refusal) → Q (refused n r l) (refused n r m))
+      → (Fit p r l → fails ≡ false → Q one two) → Q (ladder p r l fails own one) (ladder p r m fails own two)
+  by-both Q fails own one two f g =
+      by-entry p r l (λ s. barred State (entry-state p r l s)) (λ s n. barred Cells (entry-cells p r l s n))
+      (λ fit. admitted-alike (entry-admitted p r l fit) (g fit))
+    where
+      barred : (n : Refusal) → entry p r l ≡ Barred n → Q (ladder p r l fails own one) (ladder p r m fails own two)
+      barred n e = rw (ladder-barred p r l fails own one n e, ladder-barred p r m fails own two n (sym entry-alike ∙ e)) (f n)
+
+      admitted-alike : entry p r l ≡ Admitted → (fails ≡ false → Q one two) → Q (ladder p r l fails own one) (ladder p r m fails own two)
+      admitted-alike e h =
+          by-cases fails (λ t. rw (ladder-own p r l fails own one e t, ladder-own p r m fails own two (sym entry-alike ∙ e) t) (f own))
+          (λ t. rw (ladder-taken p r l fails own one e t, ladder-taken p r m fails own two (sym entry-alike ∙ e) t) (h t))

@@ -20,6 +20,9 @@ pub mod CutCells
 pub mod QuickSound
 pub mod Quick
 pub mod EventLaws
+pub mod OneWait
+pub mod Alike
+pub mod Banks
 pub mod SuspendedProgram
 pub mod HistoryLeaps
 pub mod Worked

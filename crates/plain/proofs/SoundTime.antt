@@ -21,16 +21,19 @@ use Rattle.plain.specs.declared.Running.{Running}
 use Rattle.plain.specs.declared.Running.the-variants.{Still, Programs, Waits, Erases, Recovers, ErasesChip}
 use Rattle.plain.specs.declared.Suspension.{Suspension}
 use Rattle.plain.specs.declared.Command.{Command}
-use Rattle.plain.specs.Figures.{programTime, windowTime, eraseTime, recoveryTime, chipTime, runningCurrent}
+use Rattle.plain.specs.declared.Device.{Device}
+use Rattle.plain.specs.Figures.{programTime, windowTime, eraseTime, recoveryTime, chipTime, runningCurrent, clockLimit}
 use Rattle.plain.specs.Choice.{if_then_else_}
+use Rattle.plain.specs.Lent.{Lent}
+use Rattle.plain.specs.Machine.{now, waitTaken}
 use Rattle.plain.specs.Operations.{runningOf, runningInside}
 use Rattle.plain.specs.Record.{programLeft, erase, eraseLeft, suspended}
-use Rattle.plain.specs.Sound.{operationSound, isStill, commandSound}
+use Rattle.plain.specs.Sound.{operationSound, isStill, commandSound, sound}
 use Rattle.plain.specs.Time.{Moment, last, current, onward, operationTick, insideTick, tick, ticks}
 use Rattle.plain.proofs.Tools.{by-test}
 use Rattle.plain.proofs.FigureLaws.{erase-some, chip-some, standby-most, one-sound}
-use Rattle.plain.proofs.Facts.{ProgramFacts, EraseFacts, BlockEraseFacts, programming, window, window-lowest, erasing, recovering, erase-suspended, inside-runs, chip-erasing, one-time-programming}
-use Rattle.plain.proofs.FactsHold.{idle-holds, programming-holds, window-holds, erasing-holds, recovering-holds, resting-holds, inside-holds, chip-holds, entered-holds, one-time-holds}
+use Rattle.plain.proofs.Facts.{ProgramFacts, EraseFacts, BlockEraseFacts, programming, window, window-lowest, erasing, recovering, erase-suspended, inside-runs, chip-erasing, one-time-programming, sound-charge, sound-bits, sound-operation, sound-command}
+use Rattle.plain.proofs.FactsHold.{meter-holds, sound-holds, idle-holds, programming-holds, window-holds, erasing-holds, recovering-holds, resting-holds, inside-holds, chip-holds, entered-holds, one-time-holds}
 use Rattle.plain.proofs.Register.{ran}
 
 -- ---- the same list with another block in hand, and another time left
@@ -188,3 +191,13 @@ pub ticks-clock : (p : Part) (n : ℕ) (m : Moment) → ticks p n m .meter .cloc
 unfolding ticks tick
 ticks-clock p zero m = omega arith
 ticks-clock p (suc n) m = omega (arith, ticks-clock p n (tick p m))
+
+-- a wait leaves a sound record
+pub waited-sound : (p : Part) (r : Device) (l : Lent) (n : ℕ) → sound p r ≡ true → r .meter .clock + n ≤ clockLimit p → sound p (waitTaken p r l n .answer .device) ≡ true
+waited-sound p r l n s room =
+    let after = ticks p n (now r l) in
+    let g =
+    ticks-going p (r .bits) (r .command) n (now r l)
+    (record { charge = sound-charge p r s; operation = sound-operation p r s (r .operation) refl; command = sound-command p r s }) in
+    sound-holds p (after .meter) (r .command) (after .operation) (r .bits)
+    (meter-holds p (after .meter) (omega (arith, ticks-clock p n (now r l), room)) (g .charge)) (sound-bits p r s) (g .operation) (g .command)

@@ -1,21 +1,29 @@
 -- Microseconds in a row: what n of them come to where nothing happens, and where something ends.
 use Prim.Native.Nat.{ℕ, zero, suc, _+_, _-_, _*_, _<_, _≤_}
-use mathlib.Core.Path.{_≡_, ap, _∙_}
+use mathlib.Core.Path.{_≡_, sym, ap, _∙_}
 use native.Mathlib.Nat.{zero-add, suc-add, suc-mul}
 use native.Mathlib.Omega.{arith}
 use Rattle.geometry.specs.declared.Part.{Part}
 use Rattle.meter.specs.declared.Meter.{Meter}
 use Rattle.meter.specs.Meter.{metered}
 use Rattle.plain.specs.declared.Operation.{Operation}
+use Rattle.plain.specs.declared.Device.{Device}
 use Rattle.plain.specs.Lent.{Lent}
+use Rattle.plain.specs.Machine.{now, waited, waitTaken}
 use Rattle.plain.specs.Operations.{runningOf}
 use Rattle.plain.specs.Time.{Moment, moment, current, operationTick, lentTick, tick, ticks}
 
--- a wait of a + b is a wait of a and then one of b
+-- a + b microseconds are a, and then b
 pub ticks-add : (p : Part) (a b : ℕ) (m : Moment) → ticks p (a + b) m ≡ ticks p b (ticks p a m)
 unfolding ticks
 ticks-add p zero b m = rw zero-add
 ticks-add p (suc a) b m = rw suc-add (ticks-add p a b (tick p m))
+
+-- so what two waits leave is what the one leaves, on any record
+pub waited-twice : (p : Part) (r : Device) (l : Lent) (a b : ℕ)
+    → let first = waitTaken p r l a in
+    waitTaken p (first .answer .device) (first .lent) b ≡ waitTaken p r l (a + b)
+waited-twice p r l a b = ap (waited r) (sym (ticks-add p a b (now r l)))
 
 -- the meter after n microseconds at one current
 abbrev pub drawn : Meter → (n rate : ℕ) → Meter

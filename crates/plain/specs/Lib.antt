@@ -31,5 +31,7 @@ pub mod Holds
 pub mod Doings
 pub mod History
 pub mod Promises
+pub mod OneWait
+pub mod Banks
 pub mod Worked
 pub mod OneTime

@@ -84,8 +84,11 @@ now r l = moment (r .meter) (r .operation) l
 abbrev pub waited : Device → Moment → Outcome
 waited r m = outcome (answer Done 0 (device (m .meter) (r .command) (m .operation) (r .bits))) (m .lent)
 
+abbrev pub waitTaken : Part → Device → Lent → (microseconds : ℕ) → Outcome
+waitTaken p r l n = waited r (ticks p n (now r l))
+
 unfoldable pub waitEvent : Part → Device → Lent → (microseconds : ℕ) → Outcome
-waitEvent p r l n = ladder p r l (not (leb (r .meter .clock + n) (clockLimit p))) Clock (waited r (ticks p n (now r l)))
+waitEvent p r l n = ladder p r l (not (leb (r .meter .clock + n) (clockLimit p))) Clock (waitTaken p r l n)
 
 abbrev pub cutTaken : Part → Device → Lent → (debris : List ℕ) → Outcome
 cutTaken p r l debris = outcome (answer Done 0 (cutDevice r)) (cutLent p (r .operation) debris l)
