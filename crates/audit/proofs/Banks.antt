@@ -1,27 +1,25 @@
 -- Banks do not tell of each other: of runs of the public functions, and of calls through C.
-use Prim.Native.Nat.{ℕ, _<_}
+use Prim.Native.Nat.{ℕ}
 use mathlib.Core.Path.{_≡_, refl, ap, sym, _∙_}
 use mathlib.Core.Bool.{true, false}
 use mathlib.Core.List.{List, [], _∷_, _++_}
-use native.Mathlib.Omega.{arith}
 use Rattle.geometry.specs.declared.Part.{Part}
 use Rattle.plain.specs.declared.Refusal.{Refusal}
 use Rattle.plain.specs.declared.Device.{Device}
-use Rattle.plain.specs.Banks.{AlikeBut, ReadsBank, AnsweredAlike, handedBack, ProgramWrite, Spares}
+use Rattle.plain.specs.Banks.{AlikeBut, handedBack, ProgramWrite, Spares}
 use Rattle.plain.specs.Events.{Event, range}
 use Rattle.plain.specs.Lent.{Lent}
-use Rattle.plain.specs.Machine.{Ran, rangeArray, rangeEvent, rangeWords, step, run}
+use Rattle.plain.specs.Machine.{rangeArray, step}
 use Rattle.plain.specs.Refusals.{number}
 use Rattle.plain.proofs.Banks.{banks-apart}
 use Rattle.plain.proofs.Tools.{by-cases}
 use Rattle.history.proofs.Banks.{banks-apart-in-runs}
 use Rattle.layout.specs.Image.{imageOf, deviceOf}
-use Rattle.face.specs.Face.{Faced, partNamed, stands, shown, state}
+use Rattle.face.specs.Face.{Faced, partNamed, stands}
 use Rattle.face.specs.Range.{packedRange, faceRange}
 use Rattle.face.proofs.Ranges.{range-none, range-some}
-use Rattle.audit.specs.Called.{Called, lentAfter, Held, Calls}
-use Rattle.audit.specs.Banks.{AnsweredAlikeCode, BanksApartCode, RangesApartCode, AnsweredAlikeCalls, BanksApartCalls, RangesApartCalls}
-use Rattle.audit.specs.Ranges.{handedAt}
+use Rattle.audit.specs.Called.{Called, Held, Calls}
+use Rattle.audit.specs.Banks.{BanksApartCode, RangesApartCode, AnsweredAlikeCalls, BanksApartCalls, RangesApartCalls}
 use Rattle.audit.proofs.CallRuns.{ran-words, ran-device, then-called, call-none, ran-none}
 use Rattle.audit.proofs.Ranges.{ranges-lie-calls}
 use Rattle.audit.proofs.Same.{allowed-is, performed-run}

@@ -4,12 +4,10 @@ use Prim.Native.Nat.{ℕ}
 use mathlib.Core.Path.{_≡_, refl, ap, sym, _∙_}
 use mathlib.Core.Bool.{true, false}
 use mathlib.Core.List.{List, [], _∷_, map}
-use Rattle.plain.specs.declared.Refusal.{Refusal}
 use Rattle.plain.specs.declared.Refusal.the-variants.{State}
 use Rattle.plain.specs.Events.{Event, Turn}
 use Rattle.plain.specs.Lent.{Lent}
 use Rattle.plain.specs.Machine.{step, run}
-use Rattle.plain.specs.Refusals.{number}
 use Rattle.plain.proofs.Tools.{both-left}
 use Rattle.layout.specs.Image.{imageOf, deviceOf}
 use Rattle.layout.proofs.Canonical.{canonical}

@@ -1,8 +1,8 @@
 -- One wait or two: of the public functions, and through C.
 use Prim.Native.Nat.{ℕ, _+_}
 use mathlib.Core.Path.{_≡_, refl, ap, sym, _∙_}
-use mathlib.Core.Bool.{true, false}
-use mathlib.Core.List.{List, [], _∷_, map}
+use mathlib.Core.Bool.{true}
+use mathlib.Core.List.{List, map}
 use native.Mathlib.Omega.{arith}
 use Rattle.geometry.specs.declared.Part.{Part}
 use Rattle.plain.specs.declared.Refusal.the-variants.{Done, State}

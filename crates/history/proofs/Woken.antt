@@ -1,11 +1,11 @@
 -- Waking early as often as one likes: a run in which waits are split is the run in which they are not.
 use Prim.Native.Nat.{ℕ, _+_}
-use mathlib.Core.Path.{_≡_, refl, sym, ap, _∙_}
+use mathlib.Core.Path.{_≡_, refl, ap, _∙_}
 use mathlib.Core.Bool.{true}
-use mathlib.Core.List.{List, [], _∷_}
+use mathlib.Core.List.{List, _∷_}
 use Rattle.geometry.specs.declared.Part.{Part}
 use Rattle.plain.specs.declared.Device.{Device}
-use Rattle.plain.specs.Events.{Event, wait, Turn}
+use Rattle.plain.specs.Events.{Event, wait}
 use Rattle.plain.specs.Lent.{Lent}
 use Rattle.plain.specs.Machine.{Outcome, Ran, step, run}
 use Rattle.plain.specs.OneWait.{Taken, waitTwice, Woken, none, next, early, isWait, WaitsTaken, besidesWaits, WakingChangesNothing, WakingGainsNothing}

@@ -13,7 +13,7 @@ use Rattle.geometry.proofs.Laid.{block-fits}
 use Rattle.meter.specs.declared.Meter.{Meter}
 use Rattle.protection.specs.declared.Protection.{Protection}
 use Rattle.plain.specs.declared.Array.{Array}
-use Rattle.plain.specs.declared.Array.the-variants.{Main, OneTime}
+use Rattle.plain.specs.declared.Array.the-variants.{Main}
 use Rattle.plain.specs.declared.Erase.{Erase}
 use Rattle.plain.specs.declared.Written.{Written}
 use Rattle.plain.specs.declared.Operation.{Operation}
@@ -30,7 +30,6 @@ use Rattle.plain.specs.declared.BegunProgram.the-variants.{NoProgram, Wr
 use Rattle.plain.specs.declared.Running.{Running}
 use Rattle.plain.specs.declared.Running.the-variants.{Still, Programs, Waits, Erases, Recovers, ErasesChip}
 use Rattle.plain.specs.Banks.{AlikeBut}
-use Rattle.plain.specs.Choice.{if_then_else_}
 use Rattle.plain.specs.Commands.{inSuspendedErase, afterA0, continued, entered, written}
 use Rattle.plain.specs.Cut.{begunBlock, begunProgram, blockDebris, debrisNeeded, blockCut, programCut, cutLent}
 use Rattle.plain.specs.Lent.{Lent, arrayOf, withArray, wordAt, Whole}
