@@ -1,5 +1,6 @@
 // A bus cycle with all its checks, told by what it does: a read by what it shows, a write by its effect. Who calls makes of it
 // the record, or the words of one.
+#![tactic(auto)]
 ghost use Rattle.std.specs.Prelude.{◌≡◌};
 ghost use Rattle.plain.specs.Commands.{effected};
 ghost use Rattle.plain.specs.Lent.{lent};
@@ -9,7 +10,7 @@ ghost use Rattle.access.specs.Sights.{sighted};
 use geometry::Part;
 use plain::{Device, Effect, Entry, Refusal, Seen};
 
-#[derive(Drop)]
+#[derive(Clone, Copy)]
 pub enum Sight {
     Refused(Refusal),
     Shown(Seen),

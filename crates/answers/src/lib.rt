@@ -1,4 +1,6 @@
 // The small answers of the device: refusals and their numbers, DONE, and the record after a cut.
+#![tactic(auto)]
+
 ghost use Rattle.std.specs.Prelude.{◌≡◌};
 ghost use Rattle.plain.specs.declared.Refusal.TheVariants.{Done};
 ghost use Rattle.plain.specs.Record.{answer};

@@ -6,7 +6,7 @@ use geometry::Part;
 use plain::{BegunProgram, Inside, Operation, Place, Program, Spot, figures};
 
 // The block and the word that a cut would change.
-#[derive(Drop)]
+#[derive(Clone, Copy)]
 pub struct Exposed {
     pub block: Place,
     pub word: Spot,

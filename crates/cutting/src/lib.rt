@@ -1,4 +1,6 @@
 // Loss of power or RESET# low, as far as what is lent goes (document 01, "The cut").
+#![tactic(auto)]
+
 ghost use Rattle.std.specs.Prelude.{◌≡◌, ℕ, ◌≤◌, List, length};
 ghost use Rattle.geometry.specs.Parts.{word_count};
 ghost use Rattle.plain.specs.Lent.{lent, Whole};

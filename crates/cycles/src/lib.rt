@@ -1,4 +1,6 @@
 // The cycles that commands are made of: tests of an address and a word (document 01, "Command cycles").
+#![tactic(auto)]
+
 ghost use Rattle.std.specs.Prelude.{◌≡◌, ◌&&◌};
 ghost use Rattle.plain.specs.Cycles.{is_at, is, first_unlock, second_unlock};
 ghost use Rattle.plain.specs.Commands.{at_lock, resets, or_reset};

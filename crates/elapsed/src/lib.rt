@@ -1,5 +1,6 @@
 // A lapse of time or of power with all its checks: a wait is told by what it moves, a cut by whether it came. Who calls makes
 // of it the record, or the words of one.
+#![tactic(auto)]
 ghost use Rattle.std.specs.Prelude.{◌≡◌};
 ghost use Rattle.plain.specs.Lent.{lent};
 ghost use Rattle.plain.specs.Machine.{Fit, wait_event, cut_event};
@@ -9,7 +10,7 @@ use geometry::Part;
 use moments::Moved;
 use plain::{Device, Entry, Refusal, figures};
 
-#[derive(Drop)]
+#[derive(Clone, Copy)]
 pub enum Lapse {
     Refused(Refusal),
     Passed(Moved),

@@ -1,6 +1,7 @@
 // The C face: a device whose record C holds as words, and whose cells and one-time words it lends (include/k5l2931cam.h). Every part
 // number, record, length and number is answered; there is nothing to check before a call. An idle device goes a short way. The long
 // one is called in two places, so the compiler leaves it out of line: what it saves on the stack is not saved for the short one.
+#![tactic(auto)]
 ghost use Rattle.std.specs.Prelude.{◌≡◌};
 ghost use Rattle.face.specs.Face.{packed, fresh_refusal, fresh_image, carried_refusal, carried_image, face_read, face_write, face_wait, face_cut};
 ghost use Rattle.face.specs.Range.{face_range};

@@ -1,1 +1,2 @@
 // What the times left foretell comes true: theory alone, there is no code.
+#![tactic(auto)]

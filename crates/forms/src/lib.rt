@@ -1,4 +1,6 @@
 // What a line is by the items that it has so far.
+#![tactic(auto)]
+
 ghost use Rattle.std.specs.Prelude.{◌≡◌, length};
 ghost use Rattle.spelling.specs.Items.{words_of};
 ghost use Rattle.forms.specs.Forms.{taken_form, taken_words, named_by, numbered_by, written_by, ranged_by, counted_to, stored_to, cuts_by, sets_by};
@@ -9,7 +11,7 @@ use language::Value;
 use spelling::{Item, Words};
 
 // The words of the language that a number follows.
-#[derive(Drop)]
+#[derive(Clone, Copy)]
 pub enum Verb {
     Read,
     Write,
@@ -20,13 +22,13 @@ pub enum Verb {
 }
 
 // The words that a line sets.
-#[derive(Drop)]
+#[derive(Clone, Copy)]
 pub enum Target {
     Cells,
     OneTime,
 }
 
-#[derive(Drop)]
+#[derive(Clone, Copy)]
 pub enum Form {
     // No item yet.
     Empty,
@@ -57,7 +59,7 @@ pub enum Form {
 }
 
 // How many words there are with one item more.
-#[derive(Drop)]
+#[derive(Clone, Copy)]
 pub enum Count {
     Wrong,
     Of(usize),

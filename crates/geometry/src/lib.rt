@@ -1,4 +1,6 @@
 // The two parts, their blocks and their banks (document 01, "The die and its small twin").
+#![tactic(auto)]
+
 ghost use Rattle.std.specs.Prelude.{◌≡◌, ◌*◌, ◌/◌};
 ghost use Rattle.geometry.specs.declared.Part.TheVariants.{Small, Full};
 ghost use Rattle.geometry.specs.Parts.{word_count, block_count, bank_count, unit_of, block_of, bank_of, first_of, size_of, bank_of_block};
@@ -7,7 +9,7 @@ pub mod asked;
 mod runs;
 
 // One of the two parts: there is no other value.
-#[derive(Drop)]
+#[derive(Clone, Copy)]
 pub enum Part {
     Small,
     Full,

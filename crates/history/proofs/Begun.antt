@@ -25,7 +25,7 @@ use Rattle.plain.specs.Operations.{suspension_of}
 use Rattle.plain.specs.Sound.{operation_sound}
 use Rattle.plain.specs.Commands.{program_is_suspended}
 use Rattle.plain.specs.Cut.{begun, if_begun, begun_block, program_begun, begun_inside, begun_program}
-use Rattle.plain.specs.Doings.{Doing, programs, erases, recovers, wipes, rests, programs_in, programs_entered}
+use Rattle.plain.specs.Doings.{Doing, programs, erases, recovers, wipes, rests, programs_in, programs_entered, nothing, waits, entered}
 use Rattle.plain.specs.Promises.{ProgramBegun, EraseBegun}
 use Rattle.plain.specs.Promises as said
 use Rattle.plain.proofs.Tools.{by-test, clash}
@@ -101,12 +101,20 @@ module _ (p : Part) where
   inside-program-is : (e : Erase) (i : Inside) (d : Written) → ProgramBegun (seen_inside p e i) d → begun_inside p i ≡ Writes d
   unfolding seen_inside begun_inside
   inside-program-is e (Runs q) d (said.inside g) = writing p q g
+  inside-program-is e Nothing d x' = elim x' [ ]
 
   pub program-is : (o : Operation) (d : Written) → ProgramBegun (seen_op p o) d → begun_program p o ≡ Writes d
   unfolding seen_op begun_program
   program-is (Programming q) d (said.ProgramBegun.running g) = writing p q g
   program-is (EraseSuspended x) d g = inside-program-is x.erase x.inside d g
   program-is (OneTimeProgramming q) d (said.entered g) = writing p q g
+  program-is Idle d g = elim g [ ]
+  program-is (ProgramSuspended _) d g = elim g [ ]
+  program-is (Window _) d g = elim g [ ]
+  program-is (Erasing _) d g = elim g [ ]
+  program-is (Recovering _) d g = elim g [ ]
+  program-is (ChipErasing _) d g = elim g [ ]
+  program-is InOneTime d g = elim g [ ]
 
   inside-block-is : (e : Erase) (i : Inside) (b : ℕ) → EraseBegun (seen_inside p e i) b → if_begun e.left (erase_time p) e.hand ≡ At b
   unfolding seen_inside
@@ -119,6 +127,12 @@ module _ (p : Part) where
   block-is (Recovering r) b (said.recovering g) = here r.erase.left (erase_time p) r.erase.hand g
   block-is (EraseSuspended x) b g = inside-block-is x.erase x.inside b g
   block-is (ChipErasing e) b (said.wiping g) = here e.left (chip_time p) e.hand g
+  block-is Idle b g = elim g [ ]
+  block-is (Programming _) b g = elim g [ ]
+  block-is (ProgramSuspended _) b g = elim g [ ]
+  block-is (Window _) b g = elim g [ ]
+  block-is InOneTime b g = elim g [ ]
+  block-is (OneTimeProgramming _) b g = elim g [ ]
 
   -- ---- at most one of each
 
@@ -126,6 +140,13 @@ module _ (p : Part) where
   same-program (programs d g) (said.ProgramBegun.running u) (said.ProgramBegun.running v) = refl
   same-program (programs_in d g l b eg) (said.inside u) (said.inside v) = refl
   same-program (programs_entered d g) (said.entered u) (said.entered v) = refl
+  same-program nothing {d = d} {e = e} x'' _ = elim x'' [ ]
+  same-program (waits list block gone) {d = d} {e = e} x3 _ = elim x3 [ ]
+  same-program (erases list block gone) {d = d} {e = e} x4 _ = elim x4 [ ]
+  same-program (recovers list block gone over) {d = d} {e = e} x5 _ = elim x5 [ ]
+  same-program (wipes list block gone) {d = d} {e = e} x6 _ = elim x6 [ ]
+  same-program (rests list block gone) {d = d} {e = e} x7 _ = elim x7 [ ]
+  same-program entered {d = d} {e = e} x8 _ = elim x8 [ ]
 
   pub same_block : (h : Doing) {b c : ℕ} → EraseBegun h b → EraseBegun h c → b ≡ c
   same_block (erases l b g) (said.EraseBegun.running u) (said.EraseBegun.running v) = refl
@@ -133,6 +154,11 @@ module _ (p : Part) where
   same_block (wipes l b g) (said.wiping u) (said.wiping v) = refl
   same_block (rests l b g) (said.resting u) (said.resting v) = refl
   same_block (programs_in d pg l b g) (said.around u) (said.around v) = refl
+  same_block nothing {b = b} {c = c} x'' _ = elim x'' [ ]
+  same_block (programs _ gone) {b = b} {c = c} x4 _ = elim x4 [ ]
+  same_block (waits list block gone) {b = b} {c = c} x4 _ = elim x4 [ ]
+  same_block entered {b = b} {c = c} x5 _ = elim x5 [ ]
+  same_block (programs_entered _ gone) {b = b} {c = c} x7 _ = elim x7 [ ]
 
   -- ---- by soundness the program and the block are apart, in the part, and unprotected
 

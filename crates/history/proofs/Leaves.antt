@@ -35,6 +35,7 @@ Leaves p start fs = (y : Array) (x : ℕ) (d : Written) → x < words_of p y →
 
 some-ended : {p : Part} {y : Array} {x : ℕ} {d : Written} (fs : List Fact) → LastEnded p y x d fs → 0 < length fs
 some-ended (f ∷ fs) last = omega arith
+some-ended {p = p} {y = y} {d = d} [] last = elim last [ ]
 
 pub none-leave : (p : Part) (start : Lent) → Leaves p start []
 unfolding Leaves

@@ -159,6 +159,14 @@ module _ (p : Part) (r : Device) (l : Lent) (a w : ℕ) (out : entered p r.bits 
   unfolding Exited written effected number
   write-exits InOneTime rests = rw out (λ _. refl)
   write-exits (OneTimeProgramming q) (programs _) = not_done Busy refl
+  write-exits Idle x' = elim x' [ ]
+  write-exits (Programming _) x3 = elim x3 [ ]
+  write-exits (ProgramSuspended _) x4 = elim x4 [ ]
+  write-exits (Window _) x5 = elim x5 [ ]
+  write-exits (Erasing _) x6 = elim x6 [ ]
+  write-exits (Recovering _) x7 = elim x7 [ ]
+  write-exits (EraseSuspended _) x8 = elim x8 [ ]
+  write-exits (ChipErasing _) x9 = elim x9 [ ]
 
   step-exits : in_one_time r ≡ true → Exited (step p r l (write a w))
   unfolding Exited step write_event number
@@ -180,6 +188,14 @@ tick-lasts : (p : Part) (o : Operation) → In o → is_entered (suspension_of (
 unfolding operation_tick suspension_of
 tick-lasts p InOneTime rests = refl
 tick-lasts p (OneTimeProgramming q) (programs _) = by-test (λ (o : Operation). is_entered (suspension_of o) ≡ true) (last q.left) (λ _. refl) (λ _. refl)
+tick-lasts p Idle x' = elim x' [ ]
+tick-lasts p (Programming _) x3 = elim x3 [ ]
+tick-lasts p (ProgramSuspended _) x4 = elim x4 [ ]
+tick-lasts p (Window _) x5 = elim x5 [ ]
+tick-lasts p (Erasing _) x6 = elim x6 [ ]
+tick-lasts p (Recovering _) x7 = elim x7 [ ]
+tick-lasts p (EraseSuspended _) x8 = elim x8 [ ]
+tick-lasts p (ChipErasing _) x9 = elim x9 [ ]
 
 ticks-last : (p : Part) (n : ℕ) (m : Moment) → is_entered (suspension_of m.operation) ≡ true → is_entered (suspension_of (ticks p n m).operation) ≡ true
 unfolding ticks tick
@@ -204,11 +220,21 @@ module _ (p : Part) (r : Device) (l : Lent) (h : in_one_time r ≡ true) (a w : 
   effect-leaves (Starts o) (starts f) = λ out. (f out, refl)
   effect-leaves (Protects new) f = clash h
   effect-leaves (Falls n) f = clash h
+  effect-leaves (Stays _) f = elim f [ ]
+  effect-leaves Drops f = elim f [ ]
 
   write-leaves : (o : Operation) → In o → command_sound p o r.command ≡ true → Left (written p r.bits o r.command l a w)
   unfolding Leaves written effected command_sound is_still running_of suspension_of
   write-leaves InOneTime rests s = effect-leaves _ (leaving p r.bits l a w r.command s)
   write-leaves (OneTimeProgramming q) (programs _) s = clash h
+  write-leaves Idle x'' s = elim x'' [ ]
+  write-leaves (Programming _) x4 s = elim x4 [ ]
+  write-leaves (ProgramSuspended _) x5 s = elim x5 [ ]
+  write-leaves (Window _) x6 s = elim x6 [ ]
+  write-leaves (Erasing _) x7 s = elim x7 [ ]
+  write-leaves (Recovering _) x8 s = elim x8 [ ]
+  write-leaves (EraseSuspended _) x9 s = elim x9 [ ]
+  write-leaves (ChipErasing _) x10 s = elim x10 [ ]
 
 pub only-these-leave : (p : Part) → OnlyTheseLeave p
 unfolding Leaves step read_event write_event wait_event cut_event range_event

@@ -7,7 +7,7 @@ use plain::Device;
 use remaining::Change;
 
 // A figure that only a sound record has.
-#[derive(Drop)]
+#[derive(Clone, Copy)]
 pub enum Figure {
     Unknown,
     Known(u64),

@@ -1,14 +1,15 @@
 // What a line of a script may ask for: the types that the language of specs/ is written over. No function.
+#![tactic(auto)]
 
 // A number's value, if it has one.
-#[derive(Drop)]
+#[derive(Clone, Copy)]
 pub enum Value {
     Absent,
     Of(u64),
 }
 
 // What a whole line asks for.
-#[derive(Drop)]
+#[derive(Clone, Copy)]
 pub enum Order {
     // "An empty line or one whose first item starts with `#` does nothing."
     Nothing,

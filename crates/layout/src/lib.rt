@@ -1,5 +1,7 @@
 // Where each part of a record stands among the words that a C program holds (include/k5l2931cam.h tells them one by one);
 // and a command and an operation as what their words tell.
+#![tactic(auto)]
+
 use plain::{Erase, Program};
 
 // A later layout has its new words at the end, and 0 there means "as before".
@@ -56,7 +58,7 @@ pub const ENTERED_AT: usize = 30;
 pub const SEALED_AT: usize = 31;
 
 // The command register: its number, and the block or bank beside it.
-#[derive(Drop)]
+#[derive(Clone, Copy)]
 pub struct CommandWords {
     pub number: u64,
     pub place: u64,
@@ -64,7 +66,7 @@ pub struct CommandWords {
 
 // What runs or is suspended: its number, its erase, its program and the time left of its recovery, all 0 where it has none; and whether
 // the one-time block is entered.
-#[derive(Drop)]
+#[derive(Clone, Copy)]
 pub struct OperationParts {
     pub number: u64,
     pub erase: Erase,

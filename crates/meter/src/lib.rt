@@ -1,8 +1,10 @@
 // Time and charge: what the device has run, and what it has drawn (document 01, "Time, charge and the cells").
+#![tactic(auto)]
+
 ghost use Rattle.std.specs.Prelude.{◌≡◌, ◌+◌, ◌<◌, ◌^◌};
 ghost use Rattle.meter.specs.Meter.{metered};
 
-#[derive(Drop)]
+#[derive(Clone, Copy)]
 pub struct Meter {
     pub clock: u64, // microseconds
     pub charge: u64, // picocoulombs

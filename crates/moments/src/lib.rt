@@ -1,5 +1,7 @@
 // What a wait changes of the record, and the meter after n microseconds at one current (document 01, "Time, charge and the
 // cells").
+#![tactic(auto)]
+
 ghost use Rattle.std.specs.Prelude.{◌≡◌, ◌*◌};
 ghost use Rattle.meter.specs.Meter.{metered};
 ghost use Rattle.plain.specs.Figures.{running_current, standby_current};
@@ -9,7 +11,7 @@ use geometry::Part;
 use meter::Meter;
 use plain::{Operation, figures};
 
-#[derive(Drop)]
+#[derive(Clone, Copy)]
 pub struct Moved {
     pub meter: Meter,
     pub operation: Operation,

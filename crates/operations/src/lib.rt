@@ -1,4 +1,6 @@
 // An operation by the two questions that most rules ask of it: what of it runs, and what stands while nothing does.
+#![tactic(auto)]
+
 ghost use Rattle.std.specs.Prelude.{◌≡◌, true};
 ghost use Rattle.plain.specs.declared.Operation.TheVariants.{Idle};
 ghost use Rattle.plain.specs.Sound.{is_still};

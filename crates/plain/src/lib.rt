@@ -1,4 +1,6 @@
 // The record of a device and its answers: the types that the plain machine of specs/ is written over.
+#![tactic(auto)]
+
 pub mod figures;
 
 use blocks::Blocks;
@@ -6,7 +8,7 @@ use meter::Meter;
 use protection::Protection;
 
 // How an event is answered (document 01, "Refusals by number"). Refusals::number has the paper's numbers.
-#[derive(Drop)]
+#[derive(Clone, Copy)]
 pub enum Refusal {
     Done,
     State,
@@ -25,7 +27,7 @@ pub enum Refusal {
 }
 
 // The two arrays that are lent: the cells, and the one-time words.
-#[derive(Drop)]
+#[derive(Clone, Copy)]
 pub enum Array {
     Main,
     OneTime,
@@ -33,7 +35,7 @@ pub enum Array {
 
 // What a program writes: "address and all 16 data bits", in one of the arrays. Who asks of it goes by Programs, and takes it apart
 // nowhere else.
-#[derive(Drop)]
+#[derive(Clone, Copy)]
 pub struct Written {
     pub at: usize,
     pub word: u16,
@@ -41,7 +43,7 @@ pub struct Written {
 }
 
 // A program: what it writes, the microseconds left, and its toggle.
-#[derive(Drop)]
+#[derive(Clone, Copy)]
 pub struct Program {
     pub writes: Written,
     pub left: u64,
@@ -49,7 +51,7 @@ pub struct Program {
 }
 
 // An erase: the listed blocks, the block in hand, the microseconds left of it, and the toggles.
-#[derive(Drop)]
+#[derive(Clone, Copy)]
 pub struct Erase {
     pub list: Blocks,
     pub hand: usize,
@@ -59,20 +61,20 @@ pub struct Erase {
 }
 
 // What goes on inside a suspended erase.
-#[derive(Drop)]
+#[derive(Clone, Copy)]
 pub enum Inside {
     Nothing,
     Runs(Program),
 }
 
-#[derive(Drop)]
+#[derive(Clone, Copy)]
 pub struct SuspendedErase {
     pub erase: Erase,
     pub inside: Inside,
 }
 
 // A block erase that B0H has stopped past its window: it is suspended when the microseconds left of its recovery are over.
-#[derive(Drop)]
+#[derive(Clone, Copy)]
 pub struct Recovery {
     pub erase: Erase,
     pub left: u64,
@@ -81,7 +83,7 @@ pub struct Recovery {
 // What runs, is suspended or is entered. A block erase that runs is in one of three phases: in its window (there `left` is the window's time,
 // and the block in hand has its full time yet), erasing, or recovering. A suspended program is held by stored records alone.
 // While the one-time block is entered a program may run, but no erase, and nothing is suspended: there is no place for them.
-#[derive(Drop)]
+#[derive(Clone, Copy)]
 pub enum Operation {
     Idle,
     Programming(Program),
@@ -96,7 +98,7 @@ pub enum Operation {
 }
 
 // What of an operation runs, a program inside a suspended erase or the one-time block included: asked by all who go by what runs now.
-#[derive(Drop)]
+#[derive(Clone, Copy)]
 pub enum Running {
     Still,
     Programs(Program),
@@ -108,7 +110,7 @@ pub enum Running {
 
 // What commands are entered beside: nothing, what is suspended, or the one-time block. Asked by all who go by what stands while
 // nothing runs.
-#[derive(Drop)]
+#[derive(Clone, Copy)]
 pub enum Suspension {
     Unsuspended,
     OfProgram(Program),
@@ -117,7 +119,7 @@ pub enum Suspension {
 }
 
 // The command register.
-#[derive(Drop)]
+#[derive(Clone, Copy)]
 pub enum Command {
     Ground,
     Entering(Cycle),
@@ -125,7 +127,7 @@ pub enum Command {
 }
 
 // A command that is half entered: the cycle that was taken last.
-#[derive(Drop)]
+#[derive(Clone, Copy)]
 pub enum Cycle {
     Unlock,
     Unlocked,
@@ -141,7 +143,7 @@ pub enum Cycle {
 }
 
 // A reading that is on: identity in a bank, 58H, or the status of the customer's lock.
-#[derive(Drop)]
+#[derive(Clone, Copy)]
 pub enum Reading {
     Identity(usize),
     Dybs,
@@ -149,7 +151,7 @@ pub enum Reading {
 }
 
 // The whole record.
-#[derive(Drop)]
+#[derive(Clone, Copy)]
 pub struct Device {
     pub meter: Meter,
     pub command: Command,
@@ -158,7 +160,7 @@ pub struct Device {
 }
 
 // The answer to an event: the refusal, the word that a read gives, and the record afterwards.
-#[derive(Drop)]
+#[derive(Clone, Copy)]
 pub struct Answer {
     pub refusal: Refusal,
     pub word: u16,
@@ -166,7 +168,7 @@ pub struct Answer {
 }
 
 // What a write does.
-#[derive(Drop)]
+#[derive(Clone, Copy)]
 pub enum Effect {
     // It is taken, and the register goes on.
     Goes(Command),
@@ -183,35 +185,35 @@ pub enum Effect {
 }
 
 // What a read sees: the word, and the operation with its toggles afterwards.
-#[derive(Drop)]
+#[derive(Clone, Copy)]
 pub struct Seen {
     pub word: u16,
     pub operation: Operation,
 }
 
 // A block, or none.
-#[derive(Drop)]
+#[derive(Clone, Copy)]
 pub enum Place {
     Nowhere,
     At(usize),
 }
 
 // A word of one of the arrays, or none.
-#[derive(Drop)]
+#[derive(Clone, Copy)]
 pub enum Spot {
     NoWord,
     In(Array, usize),
 }
 
 // What a begun program writes, which a cut would hit; or that none has begun.
-#[derive(Drop)]
+#[derive(Clone, Copy)]
 pub enum BegunProgram {
     NoProgram,
     Writes(Written),
 }
 
 // Whether an event may go on after the checks that all events begin with.
-#[derive(Drop)]
+#[derive(Clone, Copy)]
 pub enum Entry {
     Admitted,
     Barred(Refusal),

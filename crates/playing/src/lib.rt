@@ -1,4 +1,5 @@
 // The script's lines, over input that comes in parts of any size, and their answers in a lent buffer.
+#![tactic(auto)]
 ghost use Rattle.std.specs.Prelude.{◌≡◌, ◌*◌, ◌≤◌, length};
 ghost use Rattle.plain.specs.Lent.{lent};
 ghost use Rattle.printing.specs.Put.{Put};
@@ -8,7 +9,7 @@ use plain::Device;
 use script::Line;
 
 // How far the script is replayed: the record, the line under way and its number.
-#[derive(Drop)]
+#[derive(Clone, Copy)]
 pub struct Replay {
     pub device: Device,
     pub line: Line,
@@ -16,7 +17,7 @@ pub struct Replay {
 }
 
 // The same, and how many bytes of answers there are.
-#[derive(Drop)]
+#[derive(Clone, Copy)]
 pub struct Played {
     pub replay: Replay,
     pub end: usize,

@@ -1,4 +1,6 @@
 // Text in a lent buffer: each function puts its bytes from `at` on, and gives the place behind them.
+#![tactic(auto)]
+
 ghost use Rattle.std.specs.Prelude.{◌≡◌, ◌+◌, ◌%◌, ◌≤◌, length};
 ghost use Rattle.printing.specs.Text.{digit, item, decimal, hexadecimal};
 ghost use Rattle.printing.specs.Put.{Put};

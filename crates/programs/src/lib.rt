@@ -1,4 +1,6 @@
 // What a program writes, and all that is asked of it: no other crate takes its address and data apart, but those of the words for C.
+#![tactic(auto)]
+
 ghost use Rattle.std.specs.Prelude.{◌≡◌, true, ◌≤◌, length};
 ghost use Rattle.plain.specs.Lent.{lent, Whole};
 ghost use Rattle.plain.specs.Programs.{writing, first_word, array_written, lies_in, block_written, bank_written, barred, barred_as, dq7, raises, finished, debris_words, cut_off};

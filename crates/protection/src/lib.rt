@@ -1,5 +1,7 @@
 // Which blocks are protected: a DYB and a PPB for each block, and the bit that locks the PPBs (document 01, "Command
 // cycles"); and which one-time words are locked (document 02, request 4). 1 means protected.
+#![tactic(auto)]
+
 ghost use Rattle.std.specs.Prelude.{◌≡◌};
 ghost use Rattle.protection.specs.Protection.{fresh_bits, dyb_set, dyb_cleared, ppb_set, ppbs_cleared, locked, sealed_for, word_locked, after_cut, protected, protected_blocks, unprotected, stray_bits};
 
@@ -9,7 +11,7 @@ use geometry::Part;
 // The lower one-time words are the factory's.
 const FACTORY_WORDS: usize = 128;
 
-#[derive(Drop)]
+#[derive(Clone, Copy)]
 pub struct Protection {
     pub dyb: Blocks,
     pub ppb: Blocks,

@@ -1,4 +1,6 @@
 // The names of the answers (document 01, "Refusals by number").
+#![tactic(auto)]
+
 ghost use Rattle.std.specs.Prelude.{◌+◌, ◌≤◌, length};
 ghost use Rattle.printing.specs.Put.{Put};
 ghost use Rattle.printing.specs.Text.{item};

@@ -1,4 +1,6 @@
 // The sets of blocks that a part has. Each is a constant: every event asks for one.
+#![tactic(auto)]
+
 ghost use Rattle.std.specs.Prelude.{◌≡◌};
 ghost use Rattle.regions.specs.Regions.{blocks_of, strangers, outside_bank};
 ghost use Rattle.regions.specs.Stray.{stray_in};

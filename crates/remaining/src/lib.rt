@@ -1,4 +1,5 @@
 // How long what runs has still to go if nobody writes: until the device next changes by itself, and until nothing runs any more.
+#![tactic(auto)]
 ghost use Rattle.std.specs.Prelude.{◌≡◌, ◌+◌, ◌*◌, ◌^◌, ◌<◌};
 ghost use Rattle.geometry.specs.Parts.{block_count};
 ghost use Rattle.plain.specs.Operations.{running_of};
@@ -9,7 +10,7 @@ use geometry::Part;
 use plain::{Array, Erase, Operation, Running, figures};
 
 // What the device does next by itself: after how many microseconds, and at which word of which array or at which block.
-#[derive(Drop)]
+#[derive(Clone, Copy)]
 pub enum Change {
     Never,
     WindowEnds(u64),
@@ -18,14 +19,14 @@ pub enum Change {
     BlockDone(Finish),
 }
 
-#[derive(Drop)]
+#[derive(Clone, Copy)]
 pub struct WordFinish {
     pub after: u64,
     pub array: Array,
     pub at: usize,
 }
 
-#[derive(Drop)]
+#[derive(Clone, Copy)]
 pub struct Finish {
     pub after: u64,
     pub at: usize,

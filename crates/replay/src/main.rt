@@ -1,4 +1,5 @@
 // Replays an event script from standard input on the small part, and writes the answers to standard output.
+#![tactic(auto)]
 
 // Nothing says that the input ends, and a proved loop has to: its turns are more than any run takes. A line has fewer than 256
 // bytes of answers, and its end is a byte of input: so the answers to 256 bytes have room.

@@ -1,5 +1,7 @@
 // The language of event scripts, a byte at a time: a line of any length is kept in a few numbers, and its words in room that the
 // caller lends. It knows nothing of the device.
+#![tactic(auto)]
+
 ghost use Rattle.std.specs.Prelude.{◌≡◌, length};
 ghost use Rattle.language.specs.Orders.{Within};
 ghost use Rattle.script.specs.Lines.{no_line, fed_line, fed_words, ended_order, ended_words, read_on, read_words, separates_items};
@@ -11,7 +13,7 @@ pub use language::Order;
 use spelling::Item;
 
 // A line as far as it is read.
-#[derive(Drop)]
+#[derive(Clone, Copy)]
 pub struct Line {
     form: Form,
     // The item under way.

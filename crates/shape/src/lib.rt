@@ -1,4 +1,5 @@
 // Do the words that a C program holds stand for a record, and for an idle one?
+#![tactic(auto)]
 ghost use Rattle.std.specs.Prelude.{◌≡◌};
 ghost use Rattle.layout.specs.Image.{marked, well_formed, idle_words};
 

@@ -1,5 +1,7 @@
 // An item, byte by byte: "items are separated by blanks or tabs". It is read as a word of the language and as a number, both at
 // once, since what it has to be is asked when it is whole.
+#![tactic(auto)]
+
 ghost use Rattle.std.specs.Prelude.{◌≡◌};
 ghost use Rattle.spelling.specs.Items.{no_item, next_item, number_of, words_of, repeated_by, starred_by, counted_by, spelt_on, remarks_on};
 
@@ -8,7 +10,7 @@ mod numbers;
 use language::Value;
 pub use numbers::Number;
 
-#[derive(Drop)]
+#[derive(Clone, Copy)]
 pub struct Item {
     // 1, then a digit of base 256 for each of the first six bytes: no word of the language has so many.
     pub letters: u64,
@@ -20,7 +22,7 @@ pub struct Item {
 }
 
 // "`N*W` stands for N times W, N at most 16384."
-#[derive(Drop)]
+#[derive(Clone, Copy)]
 pub enum Times {
     Once,
     Of(u64),
@@ -28,7 +30,7 @@ pub enum Times {
 }
 
 // An item as words: how many times which.
-#[derive(Drop)]
+#[derive(Clone, Copy)]
 pub enum Words {
     Wrong,
     Of(u64, u16),

@@ -7,7 +7,7 @@ ghost use Rattle.spelling.specs.Numbers.{grown_to, decimal_on, hexadecimal_on, n
 use language::Value;
 
 // What the bytes so far are.
-#[derive(Drop)]
+#[derive(Clone, Copy)]
 pub enum Number {
     // No byte yet.
     Nothing,

@@ -1,8 +1,10 @@
 // The two sums over words that the `end` line and the line of a range tell: of the cells, the one-time words, or the range.
+#![tactic(auto)]
+
 ghost use Rattle.std.specs.Prelude.{◌≡◌, ◌<◌};
 ghost use Rattle.sums.specs.Sums.{with_cell, sums_of};
 
-#[derive(Drop)]
+#[derive(Clone, Copy)]
 pub struct Sums {
     pub first: u64,
     pub second: u64,

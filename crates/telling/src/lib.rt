@@ -1,4 +1,6 @@
 // The lines of answers: each function puts its line into a lent buffer from `at` on, and gives the place behind it.
+#![tactic(auto)]
+
 ghost use Rattle.std.specs.Prelude.{◌+◌, ◌≤◌, length};
 ghost use Rattle.printing.specs.Put.{Put};
 ghost use Rattle.printing.specs.Text.{item};

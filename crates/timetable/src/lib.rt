@@ -1,1 +1,2 @@
 // Worked figures of what is foreseen: it has specs and proofs alone.
+#![tactic(auto)]

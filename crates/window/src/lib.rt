@@ -1,4 +1,6 @@
 // Writes while a block erase runs: in its window (document 01, "Time, charge and the cells"), and past it.
+#![tactic(auto)]
+
 ghost use Rattle.std.specs.Prelude.{◌≡◌, min};
 ghost use Rattle.plain.specs.Commands.{add_block, in_window, in_erase};
 

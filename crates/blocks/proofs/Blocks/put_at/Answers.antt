@@ -1,0 +1,24 @@
+use mathlib.Core.Path.{sym}
+use native.Mathlib.Omega.{arith}
+use Rattle.blocks.proofs.Words.{put-past}
+use Rattle.blocks.proofs.Blocks.put_at.Goals as goal
+
+pub returns-in-0 : goal.returns-in-0
+returns-in-0 c =
+    rw c.in-0.is
+
+pub returns-in-1 : goal.returns-in-1
+returns-in-1 c =
+    rw c.in-1.is
+
+pub returns-in-2 : goal.returns-in-2
+returns-in-2 c =
+    rw c.in-2.is
+
+pub returns-in-3 : goal.returns-in-3
+returns-in-3 c =
+    rw c.in-3.is
+
+pub returns-in-4 : goal.returns-in-4
+returns-in-4 c =
+    rw c.in-4.is

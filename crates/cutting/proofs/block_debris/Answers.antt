@@ -1,0 +1,8 @@
+use borrow.Author.Rules.{rules}
+use Rattle.plain.specs.Cut.{block_debris}
+use Rattle.cutting.proofs.block_debris.Goals as goal
+
+pub returns-in-Nowhere : goal.returns-in-Nowhere
+unfolding block_debris
+returns-in-Nowhere c =
+    rw c.in-Nowhere.is

@@ -1,0 +1,14 @@
+use borrow.Author.Rules.{rules}
+use Rattle.geometry.specs.Parts.{unit_of, bank_of}
+use Rattle.geometry.specs.Runs.{bank_by}
+use Rattle.geometry.proofs.Part.bank_of.Goals as goal
+
+pub returns-in-Small : goal.returns-in-Small
+unfolding unit_of bank_of bank_by
+returns-in-Small c =
+    rw c.in-Small.is c.bank_by.ensures
+
+pub returns-in-Full : goal.returns-in-Full
+unfolding unit_of bank_of bank_by
+returns-in-Full c =
+    rw c.in-Full.is c.bank_by-in-Full.ensures

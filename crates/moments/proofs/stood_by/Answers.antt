@@ -1,0 +1,16 @@
+use native.Mathlib.Omega.{arith}
+use borrow.Author.Rules.{rules}
+use Rattle.moments.proofs.Rooms.{stood-by-fits}
+use Rattle.moments.proofs.stood_by.Goals as goal
+
+pub overflow_mul-n : goal.overflow_mul-n
+overflow_mul-n c =
+    omega (arith, (rw (← c.standby_current-standby.ensures) at (stood-by-fits _ _ _ c.requires)).1)
+
+pub advanced-requires : goal.advanced-requires
+advanced-requires c =
+    rw (← c.standby_current-standby.ensures) at (stood-by-fits _ _ _ c.requires)
+
+pub returns : goal.returns
+returns c =
+    rw (c.advanced.ensures, c.standby_current-standby.ensures)

@@ -1,0 +1,13 @@
+use borrow.Author.Rules.{rules}
+use Rattle.plain.specs.Operations.{running_inside}
+use Rattle.operations.proofs.running_inside.Goals as goal
+
+pub returns-in-Nothing : goal.returns-in-Nothing
+unfolding running_inside
+returns-in-Nothing c =
+    rw c.in-Nothing.is
+
+pub returns-in-Runs : goal.returns-in-Runs
+unfolding running_inside
+returns-in-Runs c =
+    rw c.in-Runs.is
