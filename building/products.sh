@@ -12,45 +12,37 @@ build_replay() {
 # The lookups of addresses alone, for a boot loader.
 build_lookups() {
     library=$root/target/proved/libgeometry.a
-    proved "$library" prove_lookups geometry
+    proved "$library" prove_lookups geometry_c
 }
 
 # Every function of the header.
 build_library() {
     library=$root/target/library/libk5l2931cam.a
-    proved "$library" prove_library emulator geometry
+    proved "$library" prove_library emulator_c geometry_c
 }
 
 prove_replay() {
-    built=$root/target/bin/replay
-    (cd "$root" && rt check replay)
+    built=$root/crates/replay/out/replay
+    (cd "$root/crates/replay" && rt run)
 }
 
 prove_lookups() {
-    built=$root/target/staticlib/libgeometry.a
-    (cd "$root" && rt staticlib geometry)
+    built=$root/crates/geometry_c/out/libgeometry_c.a
+    (cd "$root/crates/geometry_c" && rt lib)
 }
 
-# What the two need is proved first, side by side: rt staticlib proves one crate at a time.
+# The crates of C functions, and their objects in one archive.
 prove_library() {
-    built=$root/target/staticlib/libk5l2931cam.a
-    (
-        cd "$root" || exit
-        # shellcheck disable=SC2046 # the crates are words
-        rt check $(below emulator geometry | grep -vx emulator) || exit
-        rt staticlib geometry &
-        rt staticlib emulator
-        status=$?
-        wait $! && [ "$status" -eq 0 ] && join_archives
-    )
+    built=$root/target/library/joined.a
+    prove_lookups && (cd "$root/crates/emulator_c" && rt lib) && join_archives
 }
 
 # The objects of both archives in one; their private names are local to each.
-join_archives() {
+join_archives() (
     archiver=$(kit_program llvm-ar) || archiver=$(command -v ar) ||
-        { echo "there is no llvm-ar in the kit, and no ar on the PATH"; return 1; }
-    rm -rf target/staticlib/joined
-    mkdir target/staticlib/joined && cd target/staticlib/joined || return
-    "$archiver" x ../libemulator.a && "$archiver" x ../libgeometry.a && "$archiver" rcsD joined.a ./*.o &&
-        mv -f joined.a "$built"
-}
+        { echo "there is no llvm-ar in the kit, and no ar on the PATH"; exit 1; }
+    rm -rf "$root/target/joined"
+    mkdir -p "$root/target/joined" && cd "$root/target/joined" || exit
+    "$archiver" x "$root/crates/geometry_c/out/libgeometry_c.a" &&
+        "$archiver" x "$root/crates/emulator_c/out/libemulator_c.a" && "$archiver" rcsD "$built" ./*.o
+)

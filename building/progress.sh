@@ -25,7 +25,7 @@ below() {
 }
 
 # The crates that the log has as proved, one a line.
-proved_crates() { sed -n 's/^rt: \([a-z0-9_]*\) proved.*/\1/p' "$log" 2>/dev/null; }
+proved_crates() { awk '/^crate / { name = $2; sub(/:/, "", name) } /^logic=proved/ { print name }' "$log" 2>/dev/null; }
 
 # progress_begins CRATE..: tells what is built, and goes on telling until progress_ends.
 progress_begins() {

@@ -14,8 +14,8 @@ die() { say "$*"; exit 2; }
 # shellcheck source=building/progress.sh
 . "$root/building/progress.sh"
 
-# All that rt is given: with any edit under crates/ it is another sum.
-sources() { (cd "$root" && find crates.txt crates -type f -exec sha256sum {} +) | LC_ALL=C sort | sha256sum | cut -c 1-64; }
+# All that rt is given: with any edit under crates/ it is another sum. What rt keeps in out/ is no source.
+sources() { (cd "$root" && find crates.txt crates -name out -prune -o -type f -exec sha256sum {} +) | LC_ALL=C sort | sha256sum | cut -c 1-64; }
 checksum() { sha256sum <"$1" | cut -c 1-64; }
 
 # The kit's identity, and nothing where rt is not on the PATH.
@@ -51,7 +51,7 @@ stands() {
 }
 
 # proved COPY BUILD CRATE..: COPY is what the function BUILD has left in the file `built`, by a proof of CRATE.. ; and `loader`
-# and `emulator` are what its code is run with. One build at a time: rt knows nothing of another in the same target/.
+# and `emulator` are what its code is run with. One build at a time.
 proved() {
     if ! stands "$1"; then
         command -v rt >/dev/null ||
@@ -77,7 +77,7 @@ build() {
     if "$recipe" </dev/null >"$log" 2>&1; then failed=; else failed=yes; fi
     progress_ends
     if [ -n "$failed" ]; then
-        grep -E '^rt: .*(NOT PROVED|FAILED)' "$log" | cut -c 1-200 >&2 || :
+        grep -E '^(fn .*: (no proof|not proved)|rt: .* did not build)' "$log" | cut -c 1-200 >&2 || :
         die "rt has not proved and built $copy, and nothing is used in its stead: read the end of $log"
     fi
     [ "$of" = "$(sources)" ] || die "files under crates/ have changed while they were proved: run $script again"

@@ -68,7 +68,7 @@ BEGIN {
         path(route[keys[i]], "arrow")
         words(words_x[keys[i]], words_y[keys[i]], "small " words_anchor[keys[i]], cause_of[keys[i]])
     }
-    rests_on("crates/plain/specs/Cut.antt", "cut_device r = device (r .meter) Ground Idle (after_cut (r .bits))")
+    rests_on("crates/plain/specs/Cut.antt", "cut_device r = device r.meter Ground Idle (after_cut r.bits)")
     words(20, 30, "bold large", "The states of an operation")
     words(20, 50, "dim", "Each arrow has the write or the time that causes it. A cut leads from every state to Idle. A suspended program " \
         "is held by stored records alone: no arrow leads there.")

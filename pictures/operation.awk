@@ -12,7 +12,7 @@ function arrow(from, to, cause,    key) {
 function read_time(    i, p, from) {
     time_file = "crates/plain/specs/Time.antt"
     read_clauses(time_file, "operation_tick"); read_clauses(time_file, "inside_tick")
-    rests_on(time_file, "if ltb (first_from (e .list) (suc (e .hand))) (block_count p)")
+    rests_on(time_file, "if ltb (first_from e.list (suc e.hand)) (block_count p)")
     rests_on(time_file, "else Idle")
     for (i = 1; i <= clauses["operation_tick"]; i++) if (right["operation_tick", i] ~ /^inside_tick /) {
         parts_of(left["operation_tick", i], "", p)
@@ -101,13 +101,13 @@ function wrote_arrow(from, to, cause, clause, why) {
 # The codes that the words of the arrows have.
 function codes() {
     rests_on(commands, "else if is w 0xA0 then unless (program_is_suspended s) (Goes (Entering ProgramData))")
-    rests_on(commands, "(if isAt a 0x555 && is w 0x10 then chip_erase p bits")
-    rests_on(commands, "else if is w 0x30 then block_erase p bits (blockOf p a)")
+    rests_on(commands, "(if is_at a 0x555 && is w 0x10 then chip_erase p bits")
+    rests_on(commands, "else if is w 0x30 then block_erase p bits (block_of p a)")
     rests_on(commands, "else or_reset s w (if is w 0x30 then resumes s else Falls Sequence)")
     rests_on(commands, "else if is w 0xB0 then Starts (EraseSuspended (suspended (erase_left e (erase_time p)) Nothing))")
     rests_on(commands, "else Starts (begins s (started p d))")
     rests_on(commands, "else if is w 0x90 then Goes (Reads (Identity (bank_of p a)))")
-    rests_on(commands, "or_reset s w else′ = if is w 0xF0 then resets s else else′")
+    rests_on(commands, "or_reset s w else' = if is w 0xF0 then resets s else else'")
 }
 
 function read_writes(    c) {
@@ -127,7 +127,7 @@ function read_writes(    c) {
 }
 
 function erase_writes(    c) {
-    c = "written p bits (EraseSuspended s) c l a w = in_suspended_erase (s .inside) (entered p bits (OfErase (s .erase)) c l a w)"
+    c = "written p bits (EraseSuspended s) c l a w = in_suspended_erase s.inside (entered p bits (OfErase s.erase) c l a w)"
     wrote_arrow("EraseSuspended Nothing", "Erasing", "30H", "resumes (OfErase e)", c)
     wrote_arrow("EraseSuspended Nothing", "EraseSuspended Runs", "A0H, then address and data off the list", \
         "begins (OfErase e) q", c)
@@ -135,7 +135,7 @@ function erase_writes(    c) {
         "if is w 0x30 then add_block p bits e a")
     c = "written p bits (Window e) c l a w = in_window p bits e a w"
     wrote_arrow("Window", "EraseSuspended Nothing", "B0H", "in_window p bits e a w", c)
-    rests_on(commands, "effected r Drops = answer Sequence 0 (device (r .meter) Ground Idle (r .bits))")
+    rests_on(commands, "effected r Drops = answer Sequence 0 (device r.meter Ground Idle r.bits)")
     wrote_arrow("Window", "Idle", "any other write: SEQUENCE", "in_window p bits e a w drops", c)
     wrote_arrow("Erasing", "Recovering", "B0H", "in_erase p e w", "written p bits (Erasing e) c l a w = in_erase p e w")
 }

@@ -27,10 +27,10 @@ function test_words(s,    p) {
     parts_of(s, "", p)
     if (s == "is_entered s") { inside = 1; return "" }
     if (p[1] == "is" && p[2] == "w") return hex(p[3])
-    if (p[1] == "isAt" && p[2] == "a") return hex(p[3])
+    if (p[1] == "is_at" && p[2] == "a") return hex(p[3])
     if (p[1] == "is_dyb" && p[2] == "w") return "low four bits " p[3]
     if (p[1] == "eqb" && p[2] == "( a % 256 )") return hex(p[3])
-    if (s == "eqb ( blockOf p a ) b") return "same block"
+    if (s == "eqb ( block_of p a ) b") return "same block"
     if (s == "first_unlock a w" || s == "second_unlock a w" || s == "is_lock_address a") return test_words(meant(cycles, p[1]))
     if (s == "at_lock s a") return test_words(meant(commands, p[1]))
     die("the test `" s "` of Commands.antt has no words here")
@@ -162,18 +162,18 @@ function edge(from, cause, to) {
 
 # What the words of the picture rest on.
 function read_words(    i, n, p) {
-    rests_on(commands, "or_reset s w else′ = if is w 0xF0 then resets s else else′")
+    rests_on(commands, "or_reset s w else' = if is w 0xF0 then resets s else else'")
     n = split("Unsuspended|(OfProgram q)|(OfErase e)", p, "|")
     for (i = 1; i <= n; i++) rests_on(commands, "resets " p[i] " = Goes Ground")
     rests_on(commands, "resets Entered = Starts Idle")
     rests_on(commands, "unless suspended effect = if suspended then Falls Suspended else effect")
-    rests_on(commands, "unless_locked bits new = if bits .lock then Falls Locked else Protects new")
+    rests_on(commands, "unless_locked bits new = if bits.lock then Falls Locked else Protects new")
     rests_on(commands, "after_a0 p bits s l a w = program_data p bits s l (writing (selected s a) a w)")
     rests_on("crates/plain/specs/Operations.antt", "selected s a = if is_entered s && ltb a otp_words then OneTime else Main")
     read_clauses("crates/plain/specs/Lent.antt", "otp_words")
     rests_on("crates/plain/specs/Programs.antt", "barred_by Main = Protected")
     rests_on("crates/plain/specs/Programs.antt", "barred_by OneTime = OtpLocked")
-    rests_on(cycles, "isAt a at = eqb (a % 2048) at")
+    rests_on(cycles, "is_at a at = eqb (a % 2048) at")
     rests_on(cycles, "is w code = eqb (w % 256) code")
     rests_on(cycles, "is_dyb w value = eqb (w % 16) value")
 }

@@ -3,14 +3,18 @@
 # signature, where a statement goes by what callers learn) count, of a proof a statement. Writes `CRATE|FILES|LINES` by crate, and `kit|MODULE|NAMES`.
 function words(s) { gsub(/[][(){},;:.]/, " ", s); return " " s " " }
 
-function load(f,    line, n) {
+function load(f,    line, n, use, at) {
     if (f in size) return size[f] >= 0
     size[f] = -1
     while ((getline line < f) > 0) {
         text[f, ++n] = line
-        if (line ~ /^(pub |ghost )*use /) {
-            sub(/^(pub |ghost )*use /, "", line); sub(/;$/, "", line)
-            import[f, ++imports[f]] = line
+        # Of code a `use` may have several lines.
+        if (line ~ /^(pub |ghost )*use /) { sub(/^(pub |ghost )*use /, "", line); use = line; at = 1 }
+        else if (at) use = use line
+        if (at && use !~ /[{][^}]*$/) {
+            gsub(/ +/, " ", use); gsub(/[{] /, "{", use); gsub(/,? ?[}]/, "}", use); sub(/;$/, "", use)
+            import[f, ++imports[f]] = use
+            at = 0
         }
     }
     close(f)
@@ -18,10 +22,9 @@ function load(f,    line, n) {
     return n > 0
 }
 
-# The words by which an imported name is met: `_≡_` as ≡, if_then_else_ as if.
+# The word by which an imported name is met: `◌≡◌` as ≡, `if◌then◌else◌` as if.
 function met(name,    p, n, i) {
-    if (name !~ /^_|_$/) return name
-    n = split(name, p, "_")
+    n = split(name, p, "◌")
     for (i = 1; i <= n; i++) if (p[i] != "") return p[i]
 }
 
@@ -30,8 +33,10 @@ function follows(f, all, used,    i, j, n, m, names, name, line) {
     for (i = 1; i <= imports[f]; i++) {
         line = import[f, i]
         if (line ~ /::/) {
-            n = split(line, names, "::")
-            if (index(used, " " names[n] " ")) declared(names[1] == "crate" ? crate_of(f) : names[1], names[n])
+            m = line; sub(/::.*/, "", m)
+            sub(/.*::[{]?/, "", line); sub(/[}]$/, "", line)
+            n = split(line, names, ", ")
+            for (j = 1; j <= n; j++) if (index(used, " " names[j] " ")) declared(m == "crate" ? crate_of(f) : m, names[j])
         } else if (line ~ / as / && line !~ /[{]/) {
             split(line, names, " as ")
             if (all || index(used, " " names[2] " ")) follow(names[1], names[2])
@@ -45,8 +50,11 @@ function follows(f, all, used,    i, j, n, m, names, name, line) {
 }
 
 function follow(module, name,    p, n, i, c, f, last) {
-    if (module !~ /^Rattle·/) { if (!((module, name) in cited)) { cited[module, name] = 1; kit[module]++ }; return }
-    sub(/^Rattle·/, "", module); sub(/·(specs|proofs)[.]/, ".", module)
+    if (module !~ /^Rattle[.]/ || module ~ /^Rattle[.]std[.]/) {
+        if (!((module, name) in cited)) { cited[module, name] = 1; kit[module]++ }
+        return
+    }
+    sub(/^Rattle[.]/, "", module)
     n = split(module, p, "[.]"); c = p[1]
     if (p[2] == "specs" && p[3] == "declared") {
         for (i = 4; i < n && p[i] !~ /^[A-Z]/; i++);

@@ -1,6 +1,7 @@
 // A bus cycle with all its checks, told by what it does: a read by what it shows, a write by its effect. Who calls makes of it
 // the record, or the words of one.
 #![tactic(auto)]
+
 ghost use Rattle.std.specs.Prelude.{◌≡◌};
 ghost use Rattle.plain.specs.Commands.{effected};
 ghost use Rattle.plain.specs.Lent.{lent};

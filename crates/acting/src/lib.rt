@@ -1,5 +1,6 @@
 // What a line asks for, done on the small part and told: its lines are put into a lent buffer from `at` on.
 #![tactic(auto)]
+
 ghost use Rattle.std.specs.Prelude.{◌≡◌, ◌+◌, ◌≤◌, length};
 ghost use Rattle.plain.specs.Lent.{lent};
 ghost use Rattle.plain.specs.Record.{fresh};

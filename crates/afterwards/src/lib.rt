@@ -1,5 +1,6 @@
 // The record and the answer that the effect of a write leaves (document 01, "Refusals by number").
 #![tactic(auto)]
+
 ghost use Rattle.std.specs.Prelude.{◌≡◌};
 ghost use Rattle.plain.specs.Record.{device, answer};
 ghost use Rattle.plain.specs.Commands.{effected};

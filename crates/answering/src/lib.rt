@@ -1,5 +1,6 @@
 // The events on the small part that are told by one line, each done and told, and the last line: put into a lent buffer from `at` on.
 #![tactic(auto)]
+
 ghost use Rattle.std.specs.Prelude.{◌≡◌, ◌+◌, ◌≤◌, length};
 ghost use Rattle.language.specs.Language.{read as Line·read, write as Line·write, wait as Line·wait};
 ghost use Rattle.plain.specs.Lent.{lent};

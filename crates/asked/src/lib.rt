@@ -1,5 +1,6 @@
 // What C asks of a record besides its four events. An idle device is asked by a way of its own, as the most common case.
 #![tactic(auto)]
+
 ghost use Rattle.std.specs.Prelude.{◌≡◌};
 ghost use Rattle.face.specs.Face.{stands_sound, place_number, spot_number, spot_array, face_clock, face_charge};
 ghost use Rattle.asked.specs.Asked.{face_exposed_block, face_exposed_word, face_exposed_array, face_reads_cells};

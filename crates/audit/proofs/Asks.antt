@@ -3,7 +3,7 @@ use Rattle.audit.specs.Asks.{AsksNothing}
 
 pub asks_nothing : AsksNothing
 asks_nothing = (
-  (λ p r cells otp debris t a w n.
+  (λ p r cells otp debris cells_mut otp_mut t a w n.
       record {
         fresh = tt;
         is-sound = tt;
@@ -20,7 +20,7 @@ asks_nothing = (
         until-change = tt;
         debris-needed = tt;
       }),
-  (λ part words stored cells otp debris t a w n.
+  (λ part words stored cells otp debris words_mut cells_mut otp_mut t a w n.
       record {
         fresh = tt;
         carry = tt;

@@ -2,7 +2,7 @@
 -- whatever they are) is nothing, for all arguments.
 use Rattle.std.specs.Prelude.{ℕ, List}
 use contract.Lifetimes.{Lfts}
-use Rattle.std.specs.Borrow.{Bor}
+use Rattle.std.specs.Borrow.{Bor, MutBor}
 use Rattle.geometry.specs.declared.Part.{Part}
 use Rattle.geometry.proofs.asked.k5l_small_refusal.Reads as SmallRefusal
 use Rattle.geometry.proofs.asked.k5l_small_block.Reads as SmallBlock
@@ -51,13 +51,13 @@ use Rattle.emulator.proofs.addresses.k5l_block_of.Reads as CBlockOf
 use Rattle.emulator.proofs.addresses.k5l_bank_of.Reads as CBankOf
 
 -- the functions of `machine`
-pub record MachineAsks (p : Part) (r : Device) (cells otp debris : Bor (List ℕ)) (t : Lfts 3) (a w n : ℕ) : Type 0 where
+pub record MachineAsks (p : Part) (r : Device) (cells otp debris : Bor (List ℕ)) (cells_mut otp_mut : MutBor (List ℕ)) (t : Lfts 3) (a w n : ℕ) : Type 0 where
   pub fresh : Fresh.Asked tt tt
   pub is-sound : IsSound.Asked tt (p, (r, tt))
   pub read : Read.Asked (t.0, (t.1.0, tt)) (p, (r, (cells, (otp, (a, tt)))))
   pub write : Write.Asked (t.0, (t.1.0, tt)) (p, (r, (cells, (otp, (a, (w, tt))))))
-  pub wait : Wait.Asked (t.0, (t.1.0, tt)) (p, (r, (cells, (otp, (n, tt)))))
-  pub cut : Cut.Asked t (p, (r, (cells, (otp, (debris, tt)))))
+  pub wait : Wait.Asked (t.0, (t.1.0, tt)) (p, (r, (cells_mut, (otp_mut, (n, tt)))))
+  pub cut : Cut.Asked t (p, (r, (cells_mut, (otp_mut, (debris, tt)))))
   pub range-refusal : RangeRefusal.Asked (t.0, (t.1.0, tt)) (p, (r, (cells, (otp, (a, (n, tt))))))
   pub range-array : RangeArray.Asked tt (r, (a, tt))
   pub range : Range.Asked (t.0, tt) (p, (r, (cells, (otp, (a, (n, tt))))))
@@ -68,13 +68,13 @@ pub record MachineAsks (p : Part) (r : Device) (cells otp debris : Bor (List ℕ
   pub debris-needed : DebrisNeeded.Asked tt (p, (r, tt))
 
 -- the functions of the header
-pub record HeaderAsks (part : ℕ) (words stored cells otp debris : Bor (List ℕ)) (t : Lfts 4) (a w n : ℕ) : Type 0 where
-  pub fresh : CFresh.Asked (t.0, tt) (words, tt)
-  pub carry : CCarry.Asked (t.0, (t.1.0, tt)) (stored, (words, tt))
-  pub read : CRead.Asked (t.0, (t.1.0, (t.1.1.0, tt))) (part, (words, (cells, (otp, (a, tt)))))
-  pub write : CWrite.Asked (t.0, (t.1.0, (t.1.1.0, tt))) (part, (words, (cells, (otp, (a, (w, tt))))))
-  pub wait : CWait.Asked (t.0, (t.1.0, (t.1.1.0, tt))) (part, (words, (cells, (otp, (n, tt)))))
-  pub cut : CCut.Asked t (part, (words, (cells, (otp, (debris, tt)))))
+pub record HeaderAsks (part : ℕ) (words stored cells otp debris : Bor (List ℕ)) (words_mut cells_mut otp_mut : MutBor (List ℕ)) (t : Lfts 4) (a w n : ℕ) : Type 0 where
+  pub fresh : CFresh.Asked (t.0, tt) (words_mut, tt)
+  pub carry : CCarry.Asked (t.0, (t.1.0, tt)) (stored, (words_mut, tt))
+  pub read : CRead.Asked (t.0, (t.1.0, (t.1.1.0, tt))) (part, (words_mut, (cells, (otp, (a, tt)))))
+  pub write : CWrite.Asked (t.0, (t.1.0, (t.1.1.0, tt))) (part, (words_mut, (cells, (otp, (a, (w, tt))))))
+  pub wait : CWait.Asked (t.0, (t.1.0, (t.1.1.0, tt))) (part, (words_mut, (cells_mut, (otp_mut, (n, tt)))))
+  pub cut : CCut.Asked t (part, (words_mut, (cells_mut, (otp_mut, (debris, tt)))))
   pub range : CRange.Asked (t.0, (t.1.0, (t.1.1.0, tt))) (part, (words, (cells, (otp, (a, (n, tt))))))
   pub sound : CSound.Asked (t.0, tt) (part, (words, tt))
   pub exposed-block : CExposedBlock.Asked (t.0, tt) (part, (words, tt))
@@ -102,5 +102,7 @@ pub record HeaderAsks (part : ℕ) (words stored cells otp debris : Bor (List �
 
 abbrev pub AsksNothing : Type 0
 AsksNothing =
-    ((p : Part) (r : Device) (cells otp debris : Bor (List ℕ)) (t : Lfts 3) (a w n : ℕ) → MachineAsks p r cells otp debris t a w n)
-    × ((part : ℕ) (words stored cells otp debris : Bor (List ℕ)) (t : Lfts 4) (a w n : ℕ) → HeaderAsks part words stored cells otp debris t a w n)
+    ((p : Part) (r : Device) (cells otp debris : Bor (List ℕ)) (cells_mut otp_mut : MutBor (List ℕ)) (t : Lfts 3) (a w n : ℕ)
+    → MachineAsks p r cells otp debris cells_mut otp_mut t a w n)
+    × ((part : ℕ) (words stored cells otp debris : Bor (List ℕ)) (words_mut cells_mut otp_mut : MutBor (List ℕ)) (t : Lfts 4) (a w n : ℕ)
+    → HeaderAsks part words stored cells otp debris words_mut cells_mut otp_mut t a w n)

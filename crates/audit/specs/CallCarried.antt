@@ -7,11 +7,11 @@ use Rattle.layout.specs.Places.{layout_number, record_words}
 use Rattle.layout.specs.Image.{of_layout, well_formed, device_of}
 use Rattle.layout.specs.Carried.{Older, well_formed_in, device_in}
 use Rattle.emulator.proofs.k5l_carry.Reads as Carry
-use Rattle.audit.specs.Slices.{Location, slice}
+use Rattle.audit.specs.Slices.{Location, slice, slice_mut}
 
 -- what a call may answer, and make of the words before
 pub data Carries (stored before : List ℕ) : (answer : ℕ) → (after : List ℕ) → Type 0 where
-  carries : (t : Lfts 2) (at by : Location) {n : ℕ} {after : List ℕ} → Carry.Learnt t (slice at stored, (slice by before, tt)) n (slice at stored, (slice by after, tt)) → Carries stored before n after
+  carries : (t : Lfts 2) (at by : Location) {n : ℕ} {after : List ℕ} → Carry.Learnt t (slice at stored, (slice_mut by before, tt)) n (slice at stored, (slice_mut by after, tt)) → Carries stored before n after
 
 -- a record of layout 1 or 2 is the same record in the words of this one
 abbrev pub CarriesOlder : Type 0

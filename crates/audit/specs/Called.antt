@@ -15,7 +15,7 @@ use Rattle.emulator.proofs.k5l_write.Reads as Write
 use Rattle.emulator.proofs.k5l_wait.Reads as Wait
 use Rattle.emulator.proofs.k5l_cut.Reads as Cut
 use Rattle.emulator.proofs.k5l_range.Reads as Range
-use Rattle.audit.specs.Slices.{Location, slice, slices}
+use Rattle.audit.specs.Slices.{Location, slice, slice_mut, slices, slices_mut}
 
 -- a `uint16_t`
 abbrev pub SixteenBits : ℕ → Type 0
@@ -27,7 +27,7 @@ ThirtyThreeBits m = m < 8589934592
 
 -- words that `k5l_fresh` made of others, and answered K5L_DONE
 pub data Made : (words : List ℕ) → Type 0 where
-  made : (t : Lfts 1) (at : Location) (before : List ℕ) {words : List ℕ} → Fresh.Learnt t (slice at before, tt) (number Done) (slice at words, tt) → Made words
+  made : (t : Lfts 1) (at : Location) (before : List ℕ) {words : List ℕ} → Fresh.Learnt t (slice_mut at before, tt) (number Done) (slice_mut at words, tt) → Made words
 
 -- an answer over what is lent, and what is lent after it
 abbrev pub answered_over : (refusal word : ℕ) → (image : List ℕ) → Lent → Faced
@@ -41,16 +41,16 @@ lent_after f = lent f.cells f.otp
 -- lie: Ranges)
 pub data Called (part : ℕ) (words : List ℕ) (l : Lent) : Event → Faced → Type 0 where
   reads : (t : Lfts 3) (at by of : Location) {a n w : ℕ} {after : List ℕ} → ((y : Array) (x : ℕ) → SixteenBits (word_at l y x)) → SixteenBits w
-      → Read.Learnt t (part, (slice at words, slices by of l (a, tt))) (65536 * n + w) (part, (slice at after, slices by of l (a, tt)))
+      → Read.Learnt t (part, (slice_mut at words, slices by of l (a, tt))) (65536 * n + w) (part, (slice_mut at after, slices by of l (a, tt)))
       → Called part words l (read a) (answered_over n w after l)
   writes : (t : Lfts 3) (at by of : Location) {a w n : ℕ} {after : List ℕ} → SixteenBits w
-      → Write.Learnt t (part, (slice at words, slices by of l (a, (w, tt)))) n (part, (slice at after, slices by of l (a, (w, tt))))
+      → Write.Learnt t (part, (slice_mut at words, slices by of l (a, (w, tt)))) n (part, (slice_mut at after, slices by of l (a, (w, tt))))
       → Called part words l (write a w) (answered_over n 0 after l)
   waits : (t : Lfts 3) (at by of : Location) {d n : ℕ} {after : List ℕ} {left : Lent}
-      → Wait.Learnt t (part, (slice at words, slices by of l (d, tt))) n (part, (slice at after, slices by of left (d, tt)))
+      → Wait.Learnt t (part, (slice_mut at words, slices_mut by of l (d, tt))) n (part, (slice_mut at after, slices_mut by of left (d, tt)))
       → Called part words l (wait d) (answered_over n 0 after left)
   cuts : (t : Lfts 4) (at by of with' : Location) {n : ℕ} {debris after : List ℕ} {left : Lent}
-      → Cut.Learnt t (part, (slice at words, slices by of l (slice with' debris, tt))) n (part, (slice at after, slices by of left (slice with' debris, tt)))
+      → Cut.Learnt t (part, (slice_mut at words, slices_mut by of l (slice with' debris, tt))) n (part, (slice_mut at after, slices_mut by of left (slice with' debris, tt)))
       → Called part words l (cut debris) (answered_over n 0 after left)
   ranges : (t : Lfts 3) (at by of : Location) {first count n m : ℕ} → ThirtyThreeBits m
       → Range.Learnt t (part, (slice at words, slices by of l (first, (count, tt)))) (8589934592 * n + m) (part, (slice at words, slices by of l (first, (count, tt))))

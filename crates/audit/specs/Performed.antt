@@ -16,7 +16,7 @@ use Rattle.machine.proofs.write.Reads as Write
 use Rattle.machine.proofs.wait.Reads as Wait
 use Rattle.machine.proofs.cut.Reads as Cut
 use Rattle.machine.proofs.range_refusal.Reads as Range
-use Rattle.audit.specs.Slices.{Location, slice, slices}
+use Rattle.audit.specs.Slices.{Location, slice, slices, slices_mut}
 
 -- a record that `machine::fresh` may give
 abbrev pub Begun : Device → Type 0
@@ -31,9 +31,9 @@ pub data Allowed (p : Part) (r : Device) (l : Lent) : Event → Answer → Lent 
   writes : (t : Lfts 2) (at by : Location) {a w : ℕ} {y : Answer}
       → Write.Learnt t (p, (r, slices at by l (a, (w, tt)))) y (p, (r, slices at by l (a, (w, tt)))) → Allowed p r l (write a w) y l
   waits : (t : Lfts 2) (at by : Location) {n : ℕ} {y : Answer} {after : Lent}
-      → Wait.Learnt t (p, (r, slices at by l (n, tt))) y (p, (r, slices at by after (n, tt))) → Allowed p r l (wait n) y after
+      → Wait.Learnt t (p, (r, slices_mut at by l (n, tt))) y (p, (r, slices_mut at by after (n, tt))) → Allowed p r l (wait n) y after
   cuts : (t : Lfts 3) (at by with' : Location) {debris : List ℕ} {y : Answer} {after : Lent}
-      → Cut.Learnt t (p, (r, slices at by l (slice with' debris, tt))) y (p, (r, slices at by after (slice with' debris, tt)))
+      → Cut.Learnt t (p, (r, slices_mut at by l (slice with' debris, tt))) y (p, (r, slices_mut at by after (slice with' debris, tt)))
       → Allowed p r l (cut debris) y after
   ranges : (t : Lfts 2) (at by : Location) {first count : ℕ} {n : Refusal}
       → Range.Learnt t (p, (r, slices at by l (first, (count, tt)))) n (p, (r, slices at by l (first, (count, tt))))

@@ -13,16 +13,16 @@ use Rattle.playing.specs.declared.Played.{Played}
 use Rattle.playing.proofs.fresh.Reads as Fresh
 use Rattle.playing.proofs.replayed.Reads as Part
 use Rattle.playing.proofs.finished.Reads as End
-use Rattle.audit.specs.Slices.{Location, slice, slices}
+use Rattle.audit.specs.Slices.{Location, slice, slice_mut, slices_mut}
 
 -- what is written from here on, by what a caller learns of each call
 pub data Writes : Replay → Lent → (words : List ℕ) → (parts : List (List ℕ)) → (written : List ℕ) → Type 0 where
   ends : (t : Lfts 4) (at by of to : Location) (n : ℕ) (l' : Lent) (out words' out' : List ℕ) {r : Replay} {l : Lent} {words : List ℕ}
-      → End.Learnt t (r, slices at by l (slice of words, (slice to out, tt))) n (r, slices at by l' (slice of words', (slice to out', tt)))
+      → End.Learnt t (r, slices_mut at by l (slice_mut of words, (slice_mut to out, tt))) n (r, slices_mut at by l' (slice_mut of words', (slice_mut to out', tt)))
       → Writes r l words [] (take n out')
   goes : (t : Lfts 5) (from at by of to : Location) (y : Played) (l' : Lent) (out words' out' : List ℕ) {r : Replay} {l : Lent} {part words rest : List ℕ} {parts : List (List ℕ)}
-      → Part.Learnt t (r, (slice from part, slices at by l (slice of words, (slice to out, tt)))) y
-      (r, (slice from part, slices at by l' (slice of words', (slice to out', tt))))
+      → Part.Learnt t (r, (slice from part, slices_mut at by l (slice_mut of words, (slice_mut to out, tt)))) y
+      (r, (slice from part, slices_mut at by l' (slice_mut of words', (slice_mut to out', tt))))
       → Writes y.replay l' words' parts rest → Writes r l words (part ∷ parts) (take y.end out' ++ rest)
 
 abbrev pub joined : List (List ℕ) → List ℕ

@@ -1,6 +1,7 @@
 // Bus reads and writes of a device in any state: the record is taken out of its words, the cycle tells what it does, and what
 // changes is stored.
 #![tactic(auto)]
+
 ghost use Rattle.std.specs.Prelude.{◌≡◌};
 ghost use Rattle.face.specs.Face.{packed, face_read, face_write};
 

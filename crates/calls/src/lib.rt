@@ -1,6 +1,7 @@
 // What every call from C begins and ends with: which part its number names, whether the words stand for a record of it, and
 // a read's and a range's answer as one number.
 #![tactic(auto)]
+
 ghost use Rattle.std.specs.Prelude.{◌≡◌, ◌+◌, ◌*◌, ◌<◌};
 ghost use Rattle.plain.specs.Refusals.{number};
 ghost use Rattle.face.specs.Face.{is_part, part_named, stands, array_number};

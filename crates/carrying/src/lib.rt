@@ -1,5 +1,6 @@
 // A stored record of an older layout, carried over: the words as they were, 0 in those that it did not have, and the new number.
 #![tactic(auto)]
+
 ghost use Rattle.std.specs.Prelude.{◌≡◌, length};
 ghost use Rattle.layout.specs.Places.{record_words};
 ghost use Rattle.layout.specs.Image.{word, section};

@@ -1,5 +1,6 @@
 // The decoder: the write of a command's next cycle while nothing runs (document 01, "Command cycles").
 #![tactic(auto)]
+
 ghost use Rattle.std.specs.Prelude.{◌≡◌};
 ghost use Rattle.plain.specs.Commands.{entered, continued};
 ghost use Rattle.plain.specs.Lent.{lent};

@@ -1,5 +1,6 @@
 // What an event does, stored among the words that a C program holds: what changes of the record, and nothing else.
 #![tactic(auto)]
+
 ghost use Rattle.std.specs.Prelude.{◌≡◌, true};
 ghost use Rattle.plain.specs.Commands.{effected};
 ghost use Rattle.plain.specs.Refusals.{number};

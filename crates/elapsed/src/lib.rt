@@ -1,6 +1,7 @@
 // A lapse of time or of power with all its checks: a wait is told by what it moves, a cut by whether it came. Who calls makes
 // of it the record, or the words of one.
 #![tactic(auto)]
+
 ghost use Rattle.std.specs.Prelude.{◌≡◌};
 ghost use Rattle.plain.specs.Lent.{lent};
 ghost use Rattle.plain.specs.Machine.{Fit, wait_event, cut_event};

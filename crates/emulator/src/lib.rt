@@ -2,6 +2,7 @@
 // number, record, length and number is answered; there is nothing to check before a call. An idle device goes a short way. The long
 // one is called in two places, so the compiler leaves it out of line: what it saves on the stack is not saved for the short one.
 #![tactic(auto)]
+
 ghost use Rattle.std.specs.Prelude.{◌≡◌};
 ghost use Rattle.face.specs.Face.{packed, fresh_refusal, fresh_image, carried_refusal, carried_image, face_read, face_write, face_wait, face_cut};
 ghost use Rattle.face.specs.Range.{face_range};
@@ -10,30 +11,21 @@ pub mod addresses;
 pub mod asked_of;
 pub mod foreseen;
 
-#[unsafe(no_mangle)]
-pub extern "C" fn k5l_fresh(words: &mut [u64]) -> u64
+pub fn k5l_fresh(words: &mut [u64]) -> u64
     ensures value { result ≡ fresh_refusal words.old }
     ensures words_after { words.new ≡ fresh_image words.old }
 {
     idling::fresh::make(words)
 }
 
-#[unsafe(no_mangle)]
-pub extern "C" fn k5l_carry(stored: &[u64], words: &mut [u64]) -> u64
+pub fn k5l_carry(stored: &[u64], words: &mut [u64]) -> u64
     ensures value { result ≡ carried_refusal stored.now words.old }
     ensures words_after { words.new ≡ carried_image stored.now words.old }
 {
     carrying::carry(stored, words)
 }
 
-#[unsafe(no_mangle)]
-pub extern "C" fn k5l_read(
-    part: u64,
-    words: &mut [u64],
-    cells: &[u16],
-    otp: &[u16],
-    address: usize,
-) -> u64
+pub fn k5l_read(part: u64, words: &mut [u64], cells: &[u16], otp: &[u16], address: usize) -> u64
     ensures value { result ≡ packed (face_read part words.old cells.now otp.now address) }
     ensures words_after { words.new ≡ (face_read part words.old cells.now otp.now address).image }
 {
@@ -46,8 +38,7 @@ pub extern "C" fn k5l_read(
     bus::read(part, words, cells, otp, address)
 }
 
-#[unsafe(no_mangle)]
-pub extern "C" fn k5l_write(
+pub fn k5l_write(
     part: u64,
     words: &mut [u64],
     cells: &[u16],
@@ -67,8 +58,7 @@ pub extern "C" fn k5l_write(
     bus::write(part, words, cells, otp, address, word)
 }
 
-#[unsafe(no_mangle)]
-pub extern "C" fn k5l_wait(
+pub fn k5l_wait(
     part: u64,
     words: &mut [u64],
     cells: &mut [u16],
@@ -89,8 +79,7 @@ pub extern "C" fn k5l_wait(
     lapses::wait(part, words, cells, otp, microseconds)
 }
 
-#[unsafe(no_mangle)]
-pub extern "C" fn k5l_cut(
+pub fn k5l_cut(
     part: u64,
     words: &mut [u64],
     cells: &mut [u16],
@@ -106,8 +95,7 @@ pub extern "C" fn k5l_cut(
 }
 
 // An idle device has no range to hand back, so it is asked as any other.
-#[unsafe(no_mangle)]
-pub extern "C" fn k5l_range(
+pub fn k5l_range(
     part: u64,
     words: &[u64],
     cells: &[u16],

@@ -1,5 +1,6 @@
 // What time does to erases: "listed blocks are erased in rising number, 700,000 µs each, to FFFFH".
 #![tactic(auto)]
+
 ghost use Rattle.std.specs.Prelude.{◌≡◌, ◌<◌, length};
 ghost use Rattle.cells.specs.Cells.{erased};
 ghost use Rattle.geometry.specs.Parts.{word_count, block_count, first_of, size_of};

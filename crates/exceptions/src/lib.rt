@@ -1,5 +1,6 @@
 // The lines that an accepted cut adds to its answer: each function puts its line into a lent buffer from `at` on.
 #![tactic(auto)]
+
 ghost use Rattle.std.specs.Prelude.{◌≡◌, ◌+◌, ◌≤◌, length, get_or};
 ghost use Rattle.plain.specs.Lent.{lent};
 ghost use Rattle.printing.specs.Put.{Put};

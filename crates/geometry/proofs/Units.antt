@@ -89,11 +89,15 @@ by-unit P k f g h = go (dec_lt k 8) (dec_lt k 2040)
     go (no l) (yes m) = g (omega arith) m
     go (no l) (no m) = h (omega arith)
 
--- a number is that, if each run says so
-pub block-by : (k n : ℕ) → InRun k n → n ≡ block_in k
-block-by k n s =
-    by-unit (n ≡ block_in k) k (λ l. s.in-low l ∙ sym ((block-is k).in-low l)) (λ l h. s.in-main l h ∙ sym ((block-is k).in-main l h))
-    (λ l. s.in_top l ∙ sym ((block-is k).in_top l))
+-- each run, as the code tells it
+pub block_low : (k : ℕ) → k < 8 → k ≡ block_in k
+block_low k l = sym ((block-is k).in-low l)
+
+pub block_main : (k : ℕ) → 8 ≤ k → k < 2040 → 7 + k / 8 ≡ block_in k
+block_main k l h = sym ((block-is k).in-main l h)
+
+pub block_top : (k : ℕ) → 2040 ≤ k → 262 + (k - 2040) ≡ block_in k
+block_top k l = sym ((block-is k).in_top l)
 
 -- ---- the rules
 

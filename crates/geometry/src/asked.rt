@@ -5,43 +5,37 @@ ghost use Rattle.geometry.specs.Asked.{refusal_asked, block_asked, bank_asked};
 
 use crate::Part;
 
-#[unsafe(no_mangle)]
-pub extern "C" fn k5l_small_refusal(address: usize) -> usize
+pub fn k5l_small_refusal(address: usize) -> usize
     ensures { result ≡ refusal_asked Small address }
 {
     refusal_asked(Part::small(), address)
 }
 
-#[unsafe(no_mangle)]
-pub extern "C" fn k5l_small_block(address: usize) -> usize
+pub fn k5l_small_block(address: usize) -> usize
     ensures { result ≡ block_asked Small address }
 {
     block_asked(Part::small(), address)
 }
 
-#[unsafe(no_mangle)]
-pub extern "C" fn k5l_small_bank(address: usize) -> usize
+pub fn k5l_small_bank(address: usize) -> usize
     ensures { result ≡ bank_asked Small address }
 {
     bank_asked(Part::small(), address)
 }
 
-#[unsafe(no_mangle)]
-pub extern "C" fn k5l_full_refusal(address: usize) -> usize
+pub fn k5l_full_refusal(address: usize) -> usize
     ensures { result ≡ refusal_asked Full address }
 {
     refusal_asked(Part::full(), address)
 }
 
-#[unsafe(no_mangle)]
-pub extern "C" fn k5l_full_block(address: usize) -> usize
+pub fn k5l_full_block(address: usize) -> usize
     ensures { result ≡ block_asked Full address }
 {
     block_asked(Part::full(), address)
 }
 
-#[unsafe(no_mangle)]
-pub extern "C" fn k5l_full_bank(address: usize) -> usize
+pub fn k5l_full_bank(address: usize) -> usize
     ensures { result ≡ bank_asked Full address }
 {
     bank_asked(Part::full(), address)

@@ -4,6 +4,7 @@ ghost use Rattle.geometry.specs.Parts.{block_in, first_in};
 ghost use Rattle.geometry.specs.Runs.{bank_by, size_by};
 
 // The block that a unit is in.
+#[tactic(auto, using(crate::proofs::Units::block_low, crate::proofs::Units::block_main, crate::proofs::Units::block_top))]
 pub fn block_in(unit: usize) -> usize
     ensures { result ≡ block_in unit }
 {

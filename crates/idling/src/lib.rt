@@ -1,6 +1,7 @@
 // Events on an idle device, at ground with nothing that runs or is suspended and the one-time block not entered: what an emulator
 // asks most; and whether it is sound. They read the few words that matter and leave the others where they are.
 #![tactic(auto)]
+
 ghost use Rattle.std.specs.Prelude.{◌≡◌, true};
 ghost use Rattle.layout.specs.Image.{idle_words};
 ghost use Rattle.face.specs.Entry.{face_entry};

@@ -1,5 +1,6 @@
 // From the words that a C program holds to the record that they stand for.
 #![tactic(auto)]
+
 ghost use Rattle.std.specs.Prelude.{◌≡◌, length};
 ghost use Rattle.layout.specs.Places.{record_words};
 ghost use Rattle.plain.specs.Record.{device};

@@ -1,5 +1,6 @@
 // What begins with judging the record: the checks of every event, and what is asked without one.
 #![tactic(auto)]
+
 ghost use Rattle.std.specs.Prelude.{◌≡◌};
 ghost use Rattle.plain.specs.Lent.{lent, is_whole};
 ghost use Rattle.plain.specs.declared.Device.{Device};

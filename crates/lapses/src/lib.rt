@@ -1,6 +1,7 @@
 // A lapse of time, and one of power, of a device in any state: the record is taken out of its words, the lapse tells what it
 // does, and what changes is stored.
 #![tactic(auto)]
+
 ghost use Rattle.std.specs.Prelude.{◌≡◌};
 ghost use Rattle.face.specs.Face.{face_wait, face_cut};
 

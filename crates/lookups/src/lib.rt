@@ -1,5 +1,6 @@
 // What C asks of the addresses and blocks of a part, by the part's number.
 #![tactic(auto)]
+
 ghost use Rattle.std.specs.Prelude.{◌≡◌};
 ghost use Rattle.face.specs.Face.{face_first_word, face_block_words};
 ghost use Rattle.lookups.specs.Addresses.{face_block_of, face_bank_of};

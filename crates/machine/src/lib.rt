@@ -1,6 +1,7 @@
 // The device: one bus read, bus write, wait or power cut at a time, over cells and one-time words that the caller lends. Every
 // record, address, word, wait and lent length is answered; the caller need have checked nothing.
 #![tactic(auto)]
+
 ghost use Rattle.std.specs.Prelude.{◌≡◌};
 ghost use Rattle.plain.specs.Lent.{lent};
 ghost use Rattle.plain.specs.Record.{fresh, device};

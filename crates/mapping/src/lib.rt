@@ -1,5 +1,6 @@
 // Which banks an emulator may map as plain memory.
 #![tactic(auto)]
+
 ghost use Rattle.std.specs.Prelude.{◌≡◌};
 ghost use Rattle.mapping.specs.Mapped.{given_in, reading_in, runs_in, rests_in, gives_cells};
 

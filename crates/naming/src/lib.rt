@@ -1,5 +1,6 @@
 // The third write, which names the command (document 01, "Command cycles").
 #![tactic(auto)]
+
 ghost use Rattle.std.specs.Prelude.{◌≡◌};
 ghost use Rattle.plain.specs.Commands.{after_unlocked};
 

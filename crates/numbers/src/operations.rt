@@ -116,6 +116,7 @@ fn no_program() -> Program
 // From a number on there is one function for each way that an operation lies in memory: one for several would take each apart by bytes.
 
 // In the one-time block: a program or nothing.
+#[tactic(auto, unfolding(layout::specs::Operations::operation_inside))]
 pub fn operation_inside(number: u64, program: Program) -> Operation
     ensures { result ≡ operation_inside number program }
 {

@@ -1,5 +1,6 @@
 // What C asks of what is to come. Of an idle device nothing is, and a cut needs no debris: it is told so by a way of its own.
 #![tactic(auto)]
+
 ghost use Rattle.std.specs.Prelude.{◌≡◌, true};
 ghost use Rattle.plain.specs.Choice.{if◌then◌else◌};
 ghost use Rattle.layout.specs.Image.{idle_words};

@@ -1,5 +1,6 @@
 // The script's lines, over input that comes in parts of any size, and their answers in a lent buffer.
 #![tactic(auto)]
+
 ghost use Rattle.std.specs.Prelude.{◌≡◌, ◌*◌, ◌≤◌, length};
 ghost use Rattle.plain.specs.Lent.{lent};
 ghost use Rattle.printing.specs.Put.{Put};

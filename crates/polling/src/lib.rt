@@ -1,5 +1,6 @@
 // Reads in the bank of what runs (document 01, "Status words"): which they are, and what they flip.
 #![tactic(auto)]
+
 ghost use Rattle.std.specs.Prelude.{◌≡◌, not};
 ghost use Rattle.plain.specs.declared.Running.TheVariants.{Programs};
 ghost use Rattle.plain.specs.Choice.{if◌then◌else◌};

@@ -1,5 +1,6 @@
 // What time does to programs: "A program takes 6 µs and leaves old AND data."
 #![tactic(auto)]
+
 ghost use Rattle.std.specs.Prelude.{◌≡◌, true, ◌*◌, ◌-◌, ◌≤◌};
 ghost use Rattle.meter.specs.Meter.{metered};
 ghost use Rattle.plain.specs.declared.Inside.TheVariants.{Runs};

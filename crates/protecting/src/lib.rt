@@ -1,6 +1,7 @@
 // The writes of 48H and 60H, which set and clear DYBs and PPBs (document 01, "Command cycles") and set the lock of the one-time
 // block (document 02, request 4).
 #![tactic(auto)]
+
 ghost use Rattle.std.specs.Prelude.{◌≡◌};
 ghost use Rattle.plain.specs.Commands.{or_reset, after48, lock_setup, after60, after68, after6060, after_lock_68, unless_locked};
 

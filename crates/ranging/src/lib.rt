@@ -1,6 +1,7 @@
 // A range of words, handed back as a part of the one-time words or of the main array (document 02, request 4). A refused range is
 // handed back empty, and the refusal is told beside it.
 #![tactic(auto)]
+
 ghost use Rattle.std.specs.Prelude.{◌≡◌};
 ghost use Rattle.plain.specs.Lent.{lent, array_of, words_of};
 ghost use Rattle.plain.specs.Machine.{range_array, hands_back, range_event, range_words};

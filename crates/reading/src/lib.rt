@@ -1,5 +1,6 @@
 // What a read gives (document 01, "Status words", and the readings of "Command cycles").
 #![tactic(auto)]
+
 ghost use Rattle.std.specs.Prelude.{◌≡◌, ◌<◌, length};
 ghost use Rattle.plain.specs.Lent.{lent, otp_words};
 ghost use Rattle.plain.specs.Status.{look};

@@ -1,6 +1,7 @@
 // What time does to an erase that recovers from B0H: "the block makes no progress, running current is drawn" (document 02, request 1),
 // and when the recovery is over it is suspended.
 #![tactic(auto)]
+
 ghost use Rattle.std.specs.Prelude.{◌≤◌};
 ghost use Rattle.plain.specs.declared.Operation.TheVariants.{Recovering};
 ghost use Rattle.moments.specs.Moments.{Room, MovesAlone};

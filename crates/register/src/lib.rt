@@ -1,5 +1,6 @@
 // The command register: what a write does (document 01, "Command cycles").
 #![tactic(auto)]
+
 ghost use Rattle.std.specs.Prelude.{◌≡◌};
 ghost use Rattle.plain.specs.Commands.{written};
 ghost use Rattle.plain.specs.Lent.{lent};

@@ -1,5 +1,6 @@
 // How long what runs has still to go if nobody writes: until the device next changes by itself, and until nothing runs any more.
 #![tactic(auto)]
+
 ghost use Rattle.std.specs.Prelude.{◌≡◌, ◌+◌, ◌*◌, ◌^◌, ◌<◌};
 ghost use Rattle.geometry.specs.Parts.{block_count};
 ghost use Rattle.plain.specs.Operations.{running_of};

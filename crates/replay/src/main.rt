@@ -1,9 +1,11 @@
 // Replays an event script from standard input on the small part, and writes the answers to standard output.
 #![tactic(auto)]
 
+use std::io::{self, Read, Write};
+
 // Nothing says that the input ends, and a proved loop has to: its turns are more than any run takes. A line has fewer than 256
 // bytes of answers, and its end is a byte of input: so the answers to 256 bytes have room.
-fn main() {
+fn main(rt: HostRuntime) -> io::Result<()> {
     let mut memory = [0xffffu16; 16384];
     let cells: &mut [u16] = &mut memory;
     let mut one_time = [0xffffu16; 256];
@@ -11,29 +13,27 @@ fn main() {
     let mut room = [0u16; 16384];
     let words: &mut [u16] = &mut room;
     let mut input = [0u8; 256];
-    let mut answers = io::large_buffer();
+    let mut answers = [0u8; 65536];
+    let mut script = rt.stdin();
+    let mut told = rt.stdout();
     let mut replay = playing::fresh();
-    let mut turns = u64::MAX;
-    while 0 < turns {
-        let got = libc::read(libc::STDIN_FILENO, &mut input);
-        if got < 0 {
-            // No answer: a read of the script failed, and the end is not told.
-            io::write_all(
-                libc::STDERR_FILENO,
-                b"replay: the script could not be read to its end\n",
-            );
-            return;
-        }
-        if got == 0 {
+    for _ in 0..u64::MAX {
+        let count = match script.read(&mut input) {
+            Ok(count) => count,
+            Err(_) => {
+                // No answer: a read of the script failed, and the end is not told.
+                eprintln!(rt; "replay: the script could not be read to its end")?;
+                return Ok(());
+            }
+        };
+        if count == 0 {
             let end = playing::finished(replay, cells, otp, words, &mut answers);
-            io::write_all(libc::STDOUT_FILENO, &answers[..end]);
-            return;
+            told.write_all(&answers[..end])?;
+            return Ok(());
         }
-        let count = io::count(got, &input);
         let played = playing::replayed(replay, &input[..count], cells, otp, words, &mut answers);
-        let end = played.end;
-        io::write_all(libc::STDOUT_FILENO, &answers[..end]);
+        told.write_all(&answers[..played.end])?;
         replay = played.replay;
-        turns -= 1;
     }
+    Ok(())
 }

@@ -1,5 +1,6 @@
 // The events on the small part that are told by more lines than one, each done and told: put into a lent buffer from `at` on.
 #![tactic(auto)]
+
 ghost use Rattle.std.specs.Prelude.{◌≡◌, ◌+◌, ◌≤◌, length};
 ghost use Rattle.language.specs.Language.{cut as Line·cut, range as Line·range};
 ghost use Rattle.plain.specs.Lent.{lent};

@@ -37,6 +37,7 @@ pub fn operation_fits(words: &[u64]) -> bool
 }
 
 // Only a block erase past its window recovers.
+#[tactic(auto, unfolding(layout::specs::Image::recovery_fits))]
 pub fn recovery_fits(words: &[u64]) -> bool
     requires { length words.now ≡ record_words }
     ensures { result ≡ recovery_fits words.now }

@@ -1,5 +1,6 @@
 // Do the words that a C program holds stand for a record, and for an idle one?
 #![tactic(auto)]
+
 ghost use Rattle.std.specs.Prelude.{◌≡◌};
 ghost use Rattle.layout.specs.Image.{marked, well_formed, idle_words};
 
@@ -43,6 +44,7 @@ pub fn is_idle(words: &[u64]) -> bool
 }
 
 // As many words as a record has, with the layout's number, and one bit for each lock.
+#[tactic(auto, unfolding(layout::specs::Image::marked))]
 fn is_marked(words: &[u64]) -> bool
     ensures { result ≡ marked words.now }
 {

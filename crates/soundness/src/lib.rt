@@ -1,5 +1,6 @@
 // Which records are sound (document 01, "A record is sound when .."), and the record of a fresh device.
 #![tactic(auto)]
+
 ghost use Rattle.std.specs.Prelude.{◌≡◌};
 ghost use Rattle.plain.specs.Record.{fresh, device};
 ghost use Rattle.plain.specs.declared.Command.TheVariants.{Ground};

@@ -1,5 +1,6 @@
 // A range of words of a device in any state, told by where it lies: nothing is copied and nothing changes, and C reads it there.
 #![tactic(auto)]
+
 ghost use Rattle.std.specs.Prelude.{◌≡◌};
 ghost use Rattle.face.specs.Range.{face_range};
 

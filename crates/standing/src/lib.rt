@@ -1,5 +1,6 @@
 // May the command register stand as it does beside what runs, is suspended or is entered?
 #![tactic(auto)]
+
 ghost use Rattle.std.specs.Prelude.{◌≡◌};
 ghost use Rattle.plain.specs.Sound.{cycle_sound, still_command, is_ground, command_sound};
 

@@ -1,5 +1,6 @@
 // The writes that start or resume an operation (document 01, "Command cycles").
 #![tactic(auto)]
+
 ghost use Rattle.std.specs.Prelude.{◌≡◌};
 ghost use Rattle.plain.specs.Commands.{resumes, after_a0, after_80_unlocked};
 ghost use Rattle.plain.specs.Lent.{lent};

@@ -1,5 +1,6 @@
 // The status words of what runs (document 01, "Status words").
 #![tactic(auto)]
+
 ghost use Rattle.std.specs.Prelude.{◌≡◌};
 ghost use Rattle.plain.specs.declared.Running.TheVariants.{Programs};
 ghost use Rattle.plain.specs.Operations.{running_inside, running_of};

@@ -1,5 +1,6 @@
 // A part of a record, or the whole of it, stored among the words that a C program holds.
 #![tactic(auto)]
+
 ghost use Rattle.std.specs.Prelude.{◌≡◌, ◌+◌, ◌≤◌, length};
 ghost use Rattle.plain.specs.declared.Operation.TheVariants.{Idle};
 ghost use Rattle.layout.specs.Places.{record_words};

@@ -1,5 +1,6 @@
 // The toggles of an operation as they are stored. They are told by the operation as it stands, and nothing of it is copied.
 #![tactic(auto)]
+
 ghost use Rattle.std.specs.Prelude.{◌≡◌};
 ghost use Rattle.plain.specs.declared.Erase.{Erase};
 ghost use Rattle.layout.specs.Operations.{suspended_parts, operation_parts};

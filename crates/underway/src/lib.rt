@@ -1,5 +1,6 @@
 // Is what runs, is suspended or is entered sound? One function for each kind of operation.
 #![tactic(auto)]
+
 ghost use Rattle.std.specs.Prelude.{◌≡◌};
 ghost use Rattle.plain.specs.declared.Operation.TheVariants.{Window, Erasing, Recovering, EraseSuspended, ChipErasing};
 ghost use Rattle.plain.specs.Programs.{same};

@@ -1,5 +1,6 @@
 // A wait: what time makes of the meter, the operation and what is lent, in leaps from happening to happening.
 #![tactic(auto)]
+
 ghost use Rattle.std.specs.Prelude.{◌≡◌};
 ghost use Rattle.plain.specs.Lent.{lent};
 ghost use Rattle.plain.specs.Time.{moment, ticks};

@@ -13,3 +13,8 @@ pub returns-in-NoProgram : goal.returns-in-NoProgram
 unfolding program_debris program_cut
 returns-in-NoProgram c =
     rw c.in-NoProgram.is (record { cells_after = refl; otp_after = refl })
+
+pub returns-in-Writes : goal.returns-in-Writes
+unfolding program_debris program_cut
+returns-in-Writes c =
+    record { cells_after = rw c.in-Writes.is c.cut_off.ensures.cells_after; otp_after = rw c.in-Writes.is c.cut_off.ensures.otp_after }

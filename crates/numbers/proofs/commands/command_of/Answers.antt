@@ -22,3 +22,8 @@ pub returns-in-14 : goal.returns-in-14
 unfolding command_of
 returns-in-14 c =
     rw c.in-14.is
+
+pub returns-in_default : goal.returns-in_default
+unfolding command_of
+returns-in_default c =
+    search rules

@@ -1,5 +1,6 @@
 use borrow.Author.Tests.{ne_eqb}
 use Rattle.layout.specs.Commands.{cycle_of}
+use borrow.Author.Rules.{rules}
 use Rattle.numbers.proofs.commands.cycle_of.Goals as goal
 
 pub returns-in-1 : goal.returns-in-1
@@ -51,3 +52,8 @@ pub returns-in-10 : goal.returns-in-10
 unfolding cycle_of
 returns-in-10 c =
     rw c.in-10.is
+
+pub returns-in_default : goal.returns-in_default
+unfolding cycle_of
+returns-in_default c =
+    search rules

@@ -15,3 +15,18 @@ only-nothing zero e q l a b = refl
 only-nothing (suc zero) e q l a b = absurd (a refl)
 only-nothing (suc (suc zero)) e q l a b = absurd (b refl)
 only-nothing (suc (suc (suc n))) e q l a b = absurd (omega (arith, l))
+
+pub returns-in-1 : goal.returns-in-1
+unfolding operation_numbered
+returns-in-1 c =
+    λ e. rw c.in-1.is
+
+pub returns-in-2 : goal.returns-in-2
+unfolding operation_numbered
+returns-in-2 c =
+    λ e. rw c.in-2.is
+
+pub returns-in_default : goal.returns-in_default
+unfolding operation_numbered
+returns-in_default c =
+    search rules
