@@ -1,7 +1,7 @@
 -- What a C program is told of a cut that might come, and of the cells that it may map.
 use Rattle.std.specs.Prelude.{ℕ, Bool, ◌&&◌, List, ltb}
 use Rattle.geometry.specs.Parts.{bank_count}
-use Rattle.plain.specs.Choice.{if◌then◌else◌}
+use Rattle.std.specs.Prelude.{if◌then◌else◌}
 use Rattle.layout.specs.Image.{device_of}
 use Rattle.judged.specs.Asked.{exposed_now, reads_cells}
 use Rattle.face.specs.Face.{part_named, stands, none, place_number, spot_number, spot_array}

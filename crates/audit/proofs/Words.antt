@@ -24,7 +24,7 @@ use Rattle.plain.specs.declared.Effect.{Effect}
 use Rattle.plain.specs.declared.Effect.TheVariants.{Goes, Starts, Protects, Falls, Stays, Drops}
 use Rattle.plain.specs.declared.Device.{Device}
 use Rattle.plain.specs.declared.Seen.{Seen}
-use Rattle.plain.specs.Choice.{if◌then◌else◌}
+use Rattle.std.specs.Prelude.{if◌then◌else◌}
 use Rattle.plain.specs.Commands.{effected}
 use Rattle.plain.specs.Lent.{Lent, word_at}
 use Rattle.plain.specs.Machine.{Outcome, read_event, write_event, wait_event, cut_event}

@@ -8,7 +8,7 @@ use Rattle.plain.specs.declared.Array.{Array}
 use Rattle.plain.specs.declared.Refusal.{Refusal}
 use Rattle.plain.specs.declared.Refusal.TheVariants.{Done}
 use Rattle.plain.specs.declared.Device.{Device}
-use Rattle.plain.specs.Choice.{if◌then◌else◌}
+use Rattle.std.specs.Prelude.{if◌then◌else◌}
 use Rattle.plain.specs.Lent.{Lent, array_of}
 use Rattle.plain.specs.Machine.{range_words}
 use Rattle.layout.specs.Image.{device_of}

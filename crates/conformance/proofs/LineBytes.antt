@@ -11,7 +11,7 @@ use Rattle.spelling.specs.declared.Item.{Item}
 use Rattle.spelling.specs.declared.Words.{Words}
 use Rattle.forms.specs.declared.Form.{Form}
 use Rattle.script.specs.declared.Line.{Line}
-use Rattle.language.specs.Choice.{if◌then◌else◌}
+use Rattle.std.specs.Prelude.{if◌then◌else◌}
 use Rattle.spelling.specs.Items.{no_item, next_item, words_of}
 use Rattle.forms.specs.Forms.{taken_form, taken_words, kept_by, stored_to, put_words}
 use Rattle.script.specs.Orders.{order_of}

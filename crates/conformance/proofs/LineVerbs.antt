@@ -7,7 +7,7 @@ use lib.Dec.{eqb, lit<}
 use lib.ListN.{length}
 use Rattle.forms.specs.declared.Verb.{Verb}
 use Rattle.forms.specs.declared.Form.{Form}
-use Rattle.language.specs.Choice.{if◌then◌else◌}
+use Rattle.std.specs.Prelude.{if◌then◌else◌}
 use Rattle.spelling.specs.Items.{spelt_on}
 use Rattle.forms.specs.Forms.{taken_by, kept_by, named_by}
 use Rattle.script.specs.Orders.{order_of}

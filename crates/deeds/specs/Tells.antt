@@ -3,7 +3,7 @@ use Rattle.std.specs.Prelude.{ℕ, List, [], ◌++◌, eqb}
 use Rattle.geometry.specs.declared.Part.TheVariants.{Small}
 use Rattle.plain.specs.declared.Answer.{Answer}
 use Rattle.plain.specs.declared.Device.{Device}
-use Rattle.plain.specs.Choice.{if◌then◌else◌}
+use Rattle.std.specs.Prelude.{if◌then◌else◌}
 use Rattle.plain.specs.Lent.{Lent}
 use Rattle.plain.specs.Machine.{Outcome, read_event, write_event, wait_event, cut_event, range_event, range_array, range_words}
 use Rattle.plain.specs.Refusals.{number}

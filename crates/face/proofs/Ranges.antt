@@ -15,7 +15,7 @@ use Rattle.plain.specs.declared.Array.{Array}
 use Rattle.plain.specs.declared.Array.TheVariants.{Main, OneTime}
 use Rattle.plain.specs.declared.Refusal.TheVariants.{Done, State, Address, Busy}
 use Rattle.plain.specs.declared.Device.{Device}
-use Rattle.plain.specs.Choice.{if◌then◌else◌}
+use Rattle.std.specs.Prelude.{if◌then◌else◌}
 use Rattle.plain.specs.Lent.{Lent, lent, array_of, words_of}
 use Rattle.plain.specs.Record.{answer}
 use Rattle.plain.specs.Refusals.{number}

@@ -3,7 +3,7 @@ use Rattle.std.specs.Prelude.{ℕ, List}
 use Rattle.plain.specs.declared.Refusal.TheVariants.{State}
 use Rattle.plain.specs.declared.Entry.{Entry}
 use Rattle.plain.specs.declared.Entry.TheVariants.{Barred}
-use Rattle.plain.specs.Choice.{if◌then◌else◌}
+use Rattle.std.specs.Prelude.{if◌then◌else◌}
 use Rattle.plain.specs.Lent.{lent}
 use Rattle.plain.specs.Machine.{entry}
 use Rattle.layout.specs.Image.{device_of}

@@ -12,7 +12,7 @@ use Rattle.plain.specs.declared.Spot.{Spot}
 use Rattle.plain.specs.declared.Spot.TheVariants.{NoWord, In}
 use Rattle.plain.specs.declared.Refusal.TheVariants.{Done, State}
 use Rattle.plain.specs.declared.Device.{Device}
-use Rattle.plain.specs.Choice.{if◌then◌else◌}
+use Rattle.std.specs.Prelude.{if◌then◌else◌}
 use Rattle.plain.specs.Lent.{Lent, lent}
 use Rattle.plain.specs.Record.{fresh}
 use Rattle.plain.specs.Refusals.{number}

@@ -1,7 +1,7 @@
 -- A range of words (document 02, request 4), as C is handed it back: one number tells where it lies, and there C reads it.
 use Rattle.std.specs.Prelude.{ℕ, ◌+◌, ◌*◌, ◌/◌, ◌%◌, ◌<◌, ◌≡◌, List, [], eqb, length, drop, take}
 use Rattle.plain.specs.declared.Array.{Array}
-use Rattle.plain.specs.Choice.{if◌then◌else◌}
+use Rattle.std.specs.Prelude.{if◌then◌else◌}
 use Rattle.plain.specs.Lent.{lent}
 use Rattle.plain.specs.Machine.{range_event, range_array, range_words}
 use Rattle.layout.specs.Image.{device_of}

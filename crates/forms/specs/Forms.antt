@@ -1,6 +1,6 @@
 -- A line by its items, as the reader keeps it. `room` is how many words the caller lends.
 use Rattle.std.specs.Prelude.{ℕ, ◌+◌, ◌-◌, Bool, List, ◌++◌, eqb, leb, ltb, length, take, drop, replicate}
-use Rattle.language.specs.Choice.{if◌then◌else◌}
+use Rattle.std.specs.Prelude.{if◌then◌else◌}
 use Rattle.language.specs.declared.Value.{Value}
 use Rattle.spelling.specs.declared.Item.{Item}
 use Rattle.spelling.specs.declared.Words.{Words}

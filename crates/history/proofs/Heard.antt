@@ -27,7 +27,7 @@ use Rattle.plain.specs.declared.Reading.TheVariants.{Identity, Dybs, OtpLock}
 use Rattle.plain.specs.declared.Effect.{Effect}
 use Rattle.plain.specs.declared.Effect.TheVariants.{Goes, Starts, Protects, Falls, Stays}
 use Rattle.plain.specs.declared.Device.{Device}
-use Rattle.plain.specs.Choice.{if◌then◌else◌}
+use Rattle.std.specs.Prelude.{if◌then◌else◌}
 use Rattle.plain.specs.Cycles.{is_at, is, first_unlock, second_unlock, is_dyb, is_lock_address}
 use Rattle.plain.specs.Figures.{program_time, window_time, chip_time}
 use Rattle.plain.specs.Lent.{Lent}

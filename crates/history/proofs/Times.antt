@@ -21,7 +21,7 @@ use Rattle.plain.specs.declared.Operation.{Operation}
 use Rattle.plain.specs.declared.Operation.TheVariants.{Idle, Programming, ProgramSuspended, Window, Erasing, Recovering, EraseSuspended, ChipErasing, InOneTime, OneTimeProgramming}
 use Rattle.plain.specs.declared.Suspension.{Suspension}
 use Rattle.plain.specs.declared.Command.{Command}
-use Rattle.plain.specs.Choice.{if◌then◌else◌}
+use Rattle.std.specs.Prelude.{if◌then◌else◌}
 use Rattle.plain.specs.Figures.{program_time, window_time, erase_time, recovery_time, chip_time}
 use Rattle.plain.specs.Lent.{Lent, Whole}
 use Rattle.plain.specs.Operations.{running_inside, running_of}

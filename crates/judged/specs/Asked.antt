@@ -4,7 +4,7 @@ use Rattle.geometry.specs.declared.Part.{Part}
 use Rattle.plain.specs.declared.Place.TheVariants.{Nowhere}
 use Rattle.plain.specs.declared.Spot.TheVariants.{NoWord}
 use Rattle.plain.specs.declared.Device.{Device}
-use Rattle.plain.specs.Choice.{if◌then◌else◌}
+use Rattle.std.specs.Prelude.{if◌then◌else◌}
 use Rattle.plain.specs.Sound.{sound}
 use Rattle.cutting.specs.declared.begun.Exposed.{Exposed}
 use Rattle.cutting.specs.Exposes.{exposed_by}

@@ -1,7 +1,7 @@
 -- What is foreseen of a device if nobody writes, and of a cut that might come: told of a sound record alone.
 use Rattle.geometry.specs.declared.Part.{Part}
 use Rattle.plain.specs.declared.Device.{Device}
-use Rattle.plain.specs.Choice.{if◌then◌else◌}
+use Rattle.std.specs.Prelude.{if◌then◌else◌}
 use Rattle.plain.specs.Cut.{debris_needed}
 use Rattle.plain.specs.Operations.{running_of}
 use Rattle.plain.specs.Sound.{sound}

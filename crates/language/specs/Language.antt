@@ -1,6 +1,6 @@
 -- The language of event scripts, whole lines at a time: what a line's bytes ask for. The reader is proved to give this.
 use Rattle.std.specs.Prelude.{ℕ, ◌+◌, ◌*◌, ◌-◌, ◌^◌, ◌<◌, Bool, true, false, ◌&&◌, ◌||◌, List, [], ◌∷◌, ◌++◌, eqb, leb, ltb, length, take, replicate}
-use Rattle.language.specs.Choice.{if◌then◌else◌}
+use Rattle.std.specs.Prelude.{if◌then◌else◌}
 use Rattle.language.specs.declared.Value.{Value}
 
 pub data Meaning : Type 0 where

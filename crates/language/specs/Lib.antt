@@ -1,4 +1,3 @@
-pub mod Choice
 pub mod Language
 pub mod Orders
 pub mod Worked

@@ -7,7 +7,7 @@ use native.Mathlib.Nat.{mod-eq_of_lt}
 use lib.Dec.{eqb, ltb}
 use lib.ListN.{length}
 use borrow.Author.Tests.{eqb-true, ltb-true}
-use Rattle.plain.specs.Choice.{if◌then◌else◌}
+use Rattle.std.specs.Prelude.{if◌then◌else◌}
 use Rattle.plain.proofs.Tools.{both_left, both_right}
 use Rattle.layout.specs.declared.OperationParts.{OperationParts}
 use Rattle.layout.specs.Places.{layout_number, record_words, layout_at, clock_at, command_at, operation_at, list_at, toggles_at, address_at, data_at, toggle_at, dyb_at, lock_at, recovery_at, entered_at, sealed_at}

@@ -11,7 +11,7 @@ use Rattle.plain.specs.declared.Program.{Program}
 use Rattle.plain.specs.declared.Erase.{Erase}
 use Rattle.plain.specs.declared.Operation.{Operation}
 use Rattle.plain.specs.declared.Operation.TheVariants.{Idle, Programming, ProgramSuspended, Window, Erasing, Recovering, EraseSuspended, ChipErasing, InOneTime, OneTimeProgramming}
-use Rattle.plain.specs.Choice.{if◌then◌else◌}
+use Rattle.std.specs.Prelude.{if◌then◌else◌}
 use Rattle.plain.specs.Operations.{suspension_of, is_entered}
 use Rattle.plain.proofs.Tools.{by-test, both, both_left, both_right, clash}
 use Rattle.layout.specs.Places.{layout_number, record_words, second_layout, second_words, layout_at, clock_at, operation_at, lock_at, recovery_at, entered_at, sealed_at}

@@ -12,7 +12,7 @@ use Rattle.plain.specs.declared.Inside.TheVariants.{Nothing, Runs}
 use Rattle.plain.specs.declared.Recovery.{Recovery}
 use Rattle.plain.specs.declared.Operation.{Operation}
 use Rattle.plain.specs.declared.Operation.TheVariants.{Idle, Programming, ProgramSuspended, Window, Erasing, Recovering, EraseSuspended, ChipErasing, InOneTime, OneTimeProgramming}
-use Rattle.plain.specs.Choice.{if◌then◌else◌}
+use Rattle.std.specs.Prelude.{if◌then◌else◌}
 use Rattle.plain.specs.Record.{suspended}
 use Rattle.layout.specs.declared.OperationParts.{OperationParts}
 use Rattle.layout.specs.Operations.{no_erase, no_program, parts_with, parts, suspended_parts, operation_parts, erases, programs, operation_numbered, operation_outside, operation_inside, operation_of}

@@ -6,7 +6,7 @@ use Rattle.plain.specs.declared.Cycle.{Cycle}
 use Rattle.plain.specs.declared.Cycle.TheVariants.{Unlock, Unlocked, ProgramData, EraseSetup, EraseUnlock, EraseUnlocked, DybData, PpbSetup, PpbSetting, PpbClearing, OtpLocking}
 use Rattle.plain.specs.declared.Reading.{Reading}
 use Rattle.plain.specs.declared.Reading.TheVariants.{Identity, Dybs, OtpLock}
-use Rattle.plain.specs.Choice.{if◌then◌else◌}
+use Rattle.std.specs.Prelude.{if◌then◌else◌}
 use Rattle.layout.specs.declared.CommandWords.{CommandWords}
 
 abbrev pub beside : (number place : ℕ) → CommandWords

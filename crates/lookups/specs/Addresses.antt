@@ -1,7 +1,7 @@
 -- What a C program is told of an address, by the part's number: `none` where there is no such part, or no such word in it.
 use Rattle.std.specs.Prelude.{ℕ, ltb}
 use Rattle.geometry.specs.Parts.{word_count, block_of, bank_of}
-use Rattle.plain.specs.Choice.{if◌then◌else◌}
+use Rattle.std.specs.Prelude.{if◌then◌else◌}
 use Rattle.face.specs.Face.{is_part, part_named, none}
 
 unfoldable pub face_block_of : (part address : ℕ) → ℕ

@@ -1,6 +1,6 @@
 // What a suspension means for commands.
 ghost use Rattle.std.specs.Prelude.{◌≡◌};
-ghost use Rattle.plain.specs.Choice.{if◌then◌else◌};
+ghost use Rattle.std.specs.Prelude.{if◌then◌else◌};
 ghost use Rattle.plain.specs.Commands.{is_suspended, program_is_suspended, unless};
 ghost use Rattle.plain.specs.Operations.{is_entered};
 ghost use Rattle.plain.specs.declared.Command.TheVariants.{Entering};

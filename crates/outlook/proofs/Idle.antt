@@ -3,7 +3,7 @@ use Prim.Native.Nat.{ℕ}
 use mathlib.Core.Path.{◌≡◌}
 use mathlib.Core.Bool.{true}
 use mathlib.Core.List.{List}
-use Rattle.plain.specs.Choice.{if◌then◌else◌}
+use Rattle.std.specs.Prelude.{if◌then◌else◌}
 use Rattle.plain.specs.Cut.{begun_block, begun_program, block_debris, program_debris, debris_needed}
 use Rattle.plain.specs.Operations.{running_of}
 use Rattle.plain.specs.Sound.{sound}

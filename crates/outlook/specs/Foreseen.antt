@@ -1,6 +1,6 @@
 -- What a C program is told of what is to come; `none` where there is nothing to tell.
 use Rattle.std.specs.Prelude.{ℕ, List}
-use Rattle.plain.specs.Choice.{if◌then◌else◌}
+use Rattle.std.specs.Prelude.{if◌then◌else◌}
 use Rattle.layout.specs.Image.{device_of}
 use Rattle.remaining.specs.declared.Change.{Change}
 use Rattle.remaining.specs.declared.Change.TheVariants.{Never, WindowEnds, RecoveryEnds, WordDone, BlockDone}

@@ -2,7 +2,7 @@
 #![tactic(auto)]
 
 ghost use Rattle.std.specs.Prelude.{◌≡◌, true};
-ghost use Rattle.plain.specs.Choice.{if◌then◌else◌};
+ghost use Rattle.std.specs.Prelude.{if◌then◌else◌};
 ghost use Rattle.layout.specs.Image.{idle_words};
 ghost use Rattle.face.specs.Face.{stands_sound, none};
 ghost use Rattle.outlook.specs.Foreseen.{figure_number, change_time, change_block, change_word, change_array, face_until_end, face_until_change, face_changing_block, face_changing_word, face_changing_array, face_debris_needed};

@@ -10,7 +10,7 @@ use Rattle.geometry.specs.declared.Part.{Part}
 use Rattle.geometry.specs.Parts.{word_count}
 use Rattle.plain.specs.declared.Array.{Array}
 use Rattle.plain.specs.declared.Array.TheVariants.{Main, OneTime}
-use Rattle.plain.specs.Choice.{if◌then◌else◌}
+use Rattle.std.specs.Prelude.{if◌then◌else◌}
 use Rattle.plain.specs.Lent.{Lent, otp_words, array_of, with_array, word_at, is_whole, Whole}
 use Rattle.plain.specs.Programs.{same}
 use Rattle.plain.proofs.Tools.{both, both_left, both_right, clash}

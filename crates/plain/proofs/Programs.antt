@@ -17,7 +17,7 @@ use Rattle.plain.specs.declared.Array.{Array}
 use Rattle.plain.specs.declared.Array.TheVariants.{Main}
 use Rattle.plain.specs.declared.Suspension.TheVariants.{Unsuspended}
 use Rattle.plain.specs.declared.Written.{Written}
-use Rattle.plain.specs.Choice.{if◌then◌else◌}
+use Rattle.std.specs.Prelude.{if◌then◌else◌}
 use Rattle.plain.specs.Lent.{Lent, array_of, with_array, words_of, word_at, Whole}
 use Rattle.plain.specs.Programs.{same, writes, datum, first_word, array_written, lies_in, block_written, raises, finished, debris_for, cut_off}
 use Rattle.plain.specs.Sound.{array_sound}

@@ -23,7 +23,7 @@ use Rattle.plain.specs.declared.Suspension.TheVariants.{Unsuspended, Entered}
 use Rattle.plain.specs.declared.Device.{Device}
 use Rattle.plain.specs.declared.Entry.{Entry}
 use Rattle.plain.specs.declared.Entry.TheVariants.{Admitted, Barred}
-use Rattle.plain.specs.Choice.{if◌then◌else◌}
+use Rattle.std.specs.Prelude.{if◌then◌else◌}
 use Rattle.plain.specs.Figures.{window_time, erase_time, recovery_time, chip_time}
 use Rattle.plain.specs.Lent.{Lent, is_whole}
 use Rattle.plain.specs.Machine.{entry}

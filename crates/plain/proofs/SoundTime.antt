@@ -23,7 +23,7 @@ use Rattle.plain.specs.declared.Suspension.{Suspension}
 use Rattle.plain.specs.declared.Command.{Command}
 use Rattle.plain.specs.declared.Device.{Device}
 use Rattle.plain.specs.Figures.{program_time, window_time, erase_time, recovery_time, chip_time, running_current, clock_limit}
-use Rattle.plain.specs.Choice.{if◌then◌else◌}
+use Rattle.std.specs.Prelude.{if◌then◌else◌}
 use Rattle.plain.specs.Lent.{Lent}
 use Rattle.plain.specs.Machine.{now, wait_taken}
 use Rattle.plain.specs.Operations.{running_of, running_inside}

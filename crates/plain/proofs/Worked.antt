@@ -28,7 +28,7 @@ use Rattle.plain.specs.Status.{polls, inside_polled, polled, status, given_at, g
 use Rattle.plain.specs.Cut.{begun_block, begun_inside, begun_program, word_of, block_debris, program_debris, debris_needed, block_cut, program_cut, cut_lent}
 use Rattle.plain.specs.Events.{range}
 use Rattle.plain.specs.Machine.{Ran, climbed, part, range_array, range_words, run, step}
-use Rattle.plain.specs.Choice.{if◌then◌else◌}
+use Rattle.std.specs.Prelude.{if◌then◌else◌}
 use Rattle.plain.specs.Rows.{Finding, finding, say, said, Held, Cells, filled, laid, Row, lookups, runs, hands, stated, after, handed, events_of, found, AsStated, blank}
 use Rattle.plain.specs.Bench.{bench}
 use Rattle.plain.specs.Rulings.{rulings}

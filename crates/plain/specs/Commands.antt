@@ -25,7 +25,7 @@ use Rattle.plain.specs.declared.Effect.{Effect}
 use Rattle.plain.specs.declared.Effect.TheVariants.{Goes, Starts, Protects, Falls, Stays, Drops}
 use Rattle.plain.specs.declared.Device.{Device}
 use Rattle.plain.specs.declared.Answer.{Answer}
-use Rattle.plain.specs.Choice.{if◌then◌else◌}
+use Rattle.std.specs.Prelude.{if◌then◌else◌}
 use Rattle.plain.specs.Figures.{program_time, window_time, erase_time, recovery_time, chip_time}
 use Rattle.plain.specs.Lent.{Lent}
 use Rattle.plain.specs.Record.{device, program, erase, suspended, recovery, erase_left, answer}

@@ -18,7 +18,7 @@ use Rattle.plain.specs.declared.Place.{Place}
 use Rattle.plain.specs.declared.Place.TheVariants.{Nowhere, At}
 use Rattle.plain.specs.declared.BegunProgram.{BegunProgram}
 use Rattle.plain.specs.declared.BegunProgram.TheVariants.{NoProgram, Writes}
-use Rattle.plain.specs.Choice.{if◌then◌else◌}
+use Rattle.std.specs.Prelude.{if◌then◌else◌}
 use Rattle.plain.specs.Figures.{program_time, erase_time, chip_time}
 use Rattle.plain.specs.Lent.{Lent, with_array}
 use Rattle.plain.specs.Programs.{first_word, array_written, debris_words, cut_off}

@@ -5,7 +5,7 @@ use Rattle.blocks.specs.Blocks.{first_from}
 use Rattle.geometry.specs.declared.Part.{Part}
 use Rattle.geometry.specs.Parts.{block_count, size_of}
 use Rattle.plain.specs.declared.Written.{Written}
-use Rattle.plain.specs.Choice.{if◌then◌else◌}
+use Rattle.std.specs.Prelude.{if◌then◌else◌}
 use Rattle.plain.specs.Figures.{program_time, window_time, erase_time, recovery_time, chip_time, running_current, standby_current}
 use Rattle.plain.specs.Holds.{Fact, program_done, erase_done, program_cut, erase_cut}
 

@@ -14,7 +14,7 @@ use Rattle.plain.specs.declared.Command.TheVariants.{Ground, Entering, Reads}
 use Rattle.plain.specs.declared.Cycle.{Cycle}
 use Rattle.plain.specs.declared.Cycle.TheVariants.{Unlock, Unlocked, ProgramData, EraseSetup, EraseUnlock, EraseUnlocked, DybData, PpbSetup, PpbSetting, PpbClearing, OtpLocking}
 use Rattle.plain.specs.declared.Reading.TheVariants.{Identity, Dybs, OtpLock}
-use Rattle.plain.specs.Choice.{if◌then◌else◌}
+use Rattle.std.specs.Prelude.{if◌then◌else◌}
 use Rattle.plain.specs.Cycles.{is, first_unlock, is_lock_address}
 use Rattle.plain.specs.Events.{Event, read, write, wait, cut, range, Turn}
 use Rattle.plain.specs.Doings.{Doing, nothing, programs, waits, erases, recovers, wipes, rests, programs_in, entered, programs_entered, draws, goes, comes, begins_program, goes_on, has_entered, cuts}

@@ -6,7 +6,7 @@ use Rattle.geometry.specs.Parts.{block_of, first_of}
 use Rattle.plain.specs.declared.Array.{Array}
 use Rattle.plain.specs.declared.Array.TheVariants.{Main, OneTime}
 use Rattle.plain.specs.declared.Written.{Written}
-use Rattle.plain.specs.Choice.{if◌then◌else◌}
+use Rattle.std.specs.Prelude.{if◌then◌else◌}
 use Rattle.plain.specs.Lent.{Lent, word_at}
 use Rattle.plain.specs.Programs.{writes, datum, debris_for}
 

@@ -10,7 +10,7 @@ use Rattle.plain.specs.declared.Device.{Device}
 use Rattle.plain.specs.declared.Answer.{Answer}
 use Rattle.plain.specs.declared.Entry.{Entry}
 use Rattle.plain.specs.declared.Entry.TheVariants.{Admitted, Barred}
-use Rattle.plain.specs.Choice.{if◌then◌else◌}
+use Rattle.std.specs.Prelude.{if◌then◌else◌}
 use Rattle.plain.specs.Events.{Event, read, write, wait, cut, range, Turn}
 use Rattle.plain.specs.Figures.{clock_limit}
 use Rattle.plain.specs.Lent.{Lent, array_of, words_of, is_whole, Whole}

@@ -10,7 +10,7 @@ use Rattle.plain.specs.declared.Running.{Running}
 use Rattle.plain.specs.declared.Running.TheVariants.{Still, Programs, Waits, Erases, Recovers, ErasesChip}
 use Rattle.plain.specs.declared.Suspension.{Suspension}
 use Rattle.plain.specs.declared.Suspension.TheVariants.{Unsuspended, OfProgram, OfErase, Entered}
-use Rattle.plain.specs.Choice.{if◌then◌else◌}
+use Rattle.std.specs.Prelude.{if◌then◌else◌}
 use Rattle.plain.specs.Lent.{otp_words}
 
 -- "a second operation is only a program inside a suspended erase, and that program runs"

@@ -25,7 +25,7 @@ use Rattle.plain.specs.declared.Cycle.TheVariants.{Unlock, Unlocked, ProgramData
 use Rattle.plain.specs.declared.Reading.{Reading}
 use Rattle.plain.specs.declared.Reading.TheVariants.{Identity, Dybs, OtpLock}
 use Rattle.plain.specs.declared.Device.{Device}
-use Rattle.plain.specs.Choice.{if◌then◌else◌}
+use Rattle.std.specs.Prelude.{if◌then◌else◌}
 use Rattle.plain.specs.Figures.{program_time, window_time, erase_time, recovery_time, chip_time, running_current, clock_limit}
 use Rattle.plain.specs.Operations.{running_of, suspension_of, is_entered, selected}
 use Rattle.plain.specs.Programs.{same, array_written, first_word, lies_in, block_written, barred}

@@ -20,7 +20,7 @@ use Rattle.plain.specs.declared.Command.TheVariants.{Ground, Entering, Reads}
 use Rattle.plain.specs.declared.Reading.{Reading}
 use Rattle.plain.specs.declared.Reading.TheVariants.{Identity, Dybs, OtpLock}
 use Rattle.plain.specs.declared.Seen.{Seen}
-use Rattle.plain.specs.Choice.{if◌then◌else◌}
+use Rattle.std.specs.Prelude.{if◌then◌else◌}
 use Rattle.plain.specs.Lent.{Lent, word_at}
 use Rattle.plain.specs.Operations.{running_of, suspension_of, selected}
 use Rattle.plain.specs.Programs.{block_written, bank_written, dq7}

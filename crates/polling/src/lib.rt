@@ -3,7 +3,7 @@
 
 ghost use Rattle.std.specs.Prelude.{◌≡◌, not};
 ghost use Rattle.plain.specs.declared.Running.TheVariants.{Programs};
-ghost use Rattle.plain.specs.Choice.{if◌then◌else◌};
+ghost use Rattle.std.specs.Prelude.{if◌then◌else◌};
 ghost use Rattle.plain.specs.Operations.{running_inside, running_of};
 ghost use Rattle.plain.specs.Status.{polls, program_polled, erase_polled, inside_polled, polled};
 

@@ -18,7 +18,7 @@ use Rattle.plain.specs.declared.Refusal.{Refusal}
 use Rattle.plain.specs.declared.Refusal.TheVariants.{Done, State, Cells, Address, Busy}
 use Rattle.plain.specs.declared.Suspension.{Suspension}
 use Rattle.plain.specs.declared.Suspension.TheVariants.{Unsuspended, OfProgram, OfErase, Entered}
-use Rattle.plain.specs.Choice.{if◌then◌else◌}
+use Rattle.std.specs.Prelude.{if◌then◌else◌}
 use Rattle.plain.specs.Lent.{Lent, otp_words, array_of, words_of}
 use Rattle.plain.specs.Machine.{Outcome, outcome, Fit, refused, entry, range_array, stays_inside, hands_back, range_event}
 use Rattle.plain.specs.Operations.{suspension_of, selected}

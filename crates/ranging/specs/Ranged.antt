@@ -4,7 +4,7 @@ use Rattle.geometry.specs.declared.Part.{Part}
 use Rattle.plain.specs.declared.Operation.{Operation}
 use Rattle.plain.specs.declared.Refusal.{Refusal}
 use Rattle.plain.specs.declared.Refusal.TheVariants.{Done, Address, Busy}
-use Rattle.plain.specs.Choice.{if◌then◌else◌}
+use Rattle.std.specs.Prelude.{if◌then◌else◌}
 use Rattle.plain.specs.Machine.{stays_inside, hands_back}
 
 abbrev pub ranged : Part → Operation → (first count : ℕ) → Refusal

@@ -8,7 +8,7 @@ use borrow.Author.Tests.{leb-true, ltb-false}
 use Rattle.language.specs.declared.Order.{Order}
 use Rattle.forms.specs.declared.Target.{Target}
 use Rattle.forms.specs.declared.Form.{Form}
-use Rattle.language.specs.Choice.{if◌then◌else◌}
+use Rattle.std.specs.Prelude.{if◌then◌else◌}
 use Rattle.script.specs.Orders.{order_of, cut_of, size_of, setting, set_of}
 use Rattle.language.specs.Orders.{Within}
 

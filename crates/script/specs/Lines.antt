@@ -1,6 +1,6 @@
 -- A line, byte by byte, as the reader keeps it.
 use Rattle.std.specs.Prelude.{ℕ, Bool, true, false, ◌||◌, List, eqb}
-use Rattle.language.specs.Choice.{if◌then◌else◌}
+use Rattle.std.specs.Prelude.{if◌then◌else◌}
 use Rattle.spelling.specs.declared.Item.{Item}
 use Rattle.language.specs.declared.Order.{Order}
 use Rattle.forms.specs.declared.Form.{Form}

@@ -1,6 +1,6 @@
 -- What a line asks for that ends. `room` is how many words the caller lends.
 use Rattle.std.specs.Prelude.{ℕ, ◌+◌, ◌&&◌, leb, ltb}
-use Rattle.language.specs.Choice.{if◌then◌else◌}
+use Rattle.std.specs.Prelude.{if◌then◌else◌}
 use Rattle.language.specs.declared.Order.{Order}
 use Rattle.forms.specs.declared.Target.{Target}
 use Rattle.forms.specs.declared.Form.{Form}

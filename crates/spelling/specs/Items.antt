@@ -1,6 +1,6 @@
 -- An item, byte by byte, as the reader keeps it.
 use Rattle.std.specs.Prelude.{ℕ, ◌+◌, ◌*◌, Bool, false, eqb, ltb}
-use Rattle.language.specs.Choice.{if◌then◌else◌}
+use Rattle.std.specs.Prelude.{if◌then◌else◌}
 use Rattle.spelling.specs.declared.numbers.Number.{Number}
 use Rattle.language.specs.declared.Value.{Value}
 use Rattle.spelling.specs.declared.Item.{Item}

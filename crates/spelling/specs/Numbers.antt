@@ -1,6 +1,6 @@
 -- A number, byte by byte, as the reader keeps it.
 use Rattle.std.specs.Prelude.{ℕ, ◌+◌, ◌*◌, ◌^◌, ◌&&◌, eqb, ltb}
-use Rattle.language.specs.Choice.{if◌then◌else◌}
+use Rattle.std.specs.Prelude.{if◌then◌else◌}
 use Rattle.language.specs.Language.{digit_of}
 use Rattle.spelling.specs.declared.numbers.Number.{Number}
 use Rattle.spelling.specs.declared.numbers.Number.TheVariants.{Nothing, Zero, Decimal, Prefix, Hexadecimal, Wrong}

@@ -1,6 +1,6 @@
 // A status word from its bits.
 ghost use Rattle.std.specs.Prelude.{◌≡◌, ◌≤◌};
-ghost use Rattle.plain.specs.Choice.{if◌then◌else◌};
+ghost use Rattle.std.specs.Prelude.{if◌then◌else◌};
 ghost use Rattle.plain.specs.Status.{status_word};
 
 // "All other bits are 0."
