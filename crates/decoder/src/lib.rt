@@ -40,6 +40,7 @@ pub fn entered(
 }
 
 // The next write of a command that is half entered.
+#[tactic(auto, unfolding(plain::specs::Commands::continued))]
 fn continued(
     part: Part,
     bits: Protection,

@@ -11,6 +11,7 @@ use plain::{Command, Cycle, Effect, Reading, Refusal, Suspension};
 use protection::Protection;
 
 // 48H, then a data cycle: "low four data bits, 1 or 0, set or clear the DYB of its block; another value is SEQUENCE".
+#[tactic(auto, unfolding(plain::specs::Commands::after48))]
 pub fn after_48(part: Part, bits: Protection, address: usize, word: u16) -> Effect
     ensures { result ≡ after48 part bits address word }
 {
