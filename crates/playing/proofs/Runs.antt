@@ -1,6 +1,6 @@
 -- A run over the bytes from one on: its first byte is an LF, or one of the line under way.
 use Rattle.std.proofs.Common.{◌≡◌, ℕ, ◌+◌, ◌<◌, eqb, List, [], ◌∷◌, ◌++◌, length, get_or, drop, refl, add-one, drop-cons, ne_eqb}
-use Rattle.plain.specs.Choice.{if◌then◌else◌}
+use Rattle.std.specs.Prelude.{if◌then◌else◌}
 use Rattle.playing.specs.Runs.{Run, run_over, ended, fed}
 
 step_end : (s : Run) (b : ℕ) (bytes : List ℕ) → b ≡ 10 → run_over s (b ∷ bytes) ≡ run_over (ended s) bytes

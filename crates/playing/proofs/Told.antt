@@ -1,6 +1,6 @@
 -- What a run tells from a byte on: the line's answer if the byte is an LF, and then what the run from there tells.
 use Rattle.std.proofs.Common.{◌≡◌, ℕ, ◌+◌, ◌<◌, eqb, List, [], ◌∷◌, ◌++◌, length, get_or, drop, refl, append_assoc, add-one, drop-cons, ne_eqb}
-use Rattle.plain.specs.Choice.{if◌then◌else◌}
+use Rattle.std.specs.Prelude.{if◌then◌else◌}
 use Rattle.playing.specs.Runs.{Run, run_over, told_over, ended, fed, answered}
 
 step_end : (s : Run) (b : ℕ) (bytes : List ℕ) → b ≡ 10 → told_over s (b ∷ bytes) ≡ answered s ++ told_over (ended s) bytes
