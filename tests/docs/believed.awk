@@ -86,11 +86,13 @@ function whole(f,    p) {
     follows(f, 1)
 }
 
-# Lines FROM to TO of a file, and the comment above; what they have imported is followed.
-function lines(f, from, to, what,    i, used) {
+# Lines FROM to TO of a file, and the comment above; what they have imported is followed. A hint to the prover promises nothing.
+function lines(f, from, to, what,    i, used, hints) {
     while (text[f, from - 1] ~ /^ *(\/\/|--|#\[)/) from--
-    for (i = from; i <= to; i++) if (text[f, i] !~ /^ *(\/\/|--)/) used = used words(text[f, i])
-    counts(f, what, to - from + 1)
+    for (i = from; i <= to; i++)
+        if (text[f, i] ~ /^ *#\[tactic/) hints++
+        else if (text[f, i] !~ /^ *(\/\/|--)/) used = used words(text[f, i])
+    counts(f, what, to - from + 1 - hints)
     follows(f, 0, used)
     return used
 }

@@ -9,33 +9,36 @@ ghost use Rattle.plain.specs.Machine.{Fit, read_event, write_event};
 ghost use Rattle.access.specs.Sights.{sighted};
 
 use geometry::Part;
-use plain::{Device, Effect, Entry, Refusal, Seen};
+use plain::{Device, Effect, Refusal, Seen};
 
-#[derive(Clone, Copy)]
-pub enum Sight {
-    Refused(Refusal),
-    Shown(Seen),
-}
-
-pub fn read(part: Part, device: Device, cells: &[u16], otp: &[u16], address: usize) -> Sight
+pub fn read(
+    part: Part,
+    device: Device,
+    cells: &[u16],
+    otp: &[u16],
+    address: usize,
+) -> Result<Seen, Refusal>
     ensures { sighted device result ≡ (read_event part device (lent cells.now otp.now) address).answer }
 {
-    let entry = judged::entry(part, soundness::is_sound(part, device), cells, otp);
-    match entry {
-        Entry::Barred(refusal) => Sight::Refused(refusal),
-        Entry::Admitted => admitted_read(part, device, cells, otp, address),
-    }
+    judged::entry(part, soundness::is_sound(part, device), cells, otp)?;
+    admitted_read(part, device, cells, otp, address)
 }
 
 // Once the record is sound and what is lent is whole.
-fn admitted_read(part: Part, device: Device, cells: &[u16], otp: &[u16], address: usize) -> Sight
+fn admitted_read(
+    part: Part,
+    device: Device,
+    cells: &[u16],
+    otp: &[u16],
+    address: usize,
+) -> Result<Seen, Refusal>
     requires { Fit part device (lent cells.now otp.now) }
     ensures { sighted device result ≡ (read_event part device (lent cells.now otp.now) address).answer }
 {
     if part.words() <= address {
-        return Sight::Refused(Refusal::Address);
+        return Err(Refusal::Address);
     }
-    Sight::Shown(reading::look(part, device, cells, otp, address))
+    Ok(reading::look(part, device, cells, otp, address))
 }
 
 // A write alters no cell: their length is judged, and by A0H's data cycle the word that it would program.
@@ -49,10 +52,9 @@ pub fn write(
 ) -> Effect
     ensures { effected device result ≡ (write_event part device (lent cells.now otp.now) address word).answer }
 {
-    let entry = judged::entry(part, soundness::is_sound(part, device), cells, otp);
-    match entry {
-        Entry::Barred(refusal) => Effect::Stays(refusal),
-        Entry::Admitted => admitted_write(part, device, cells, otp, address, word),
+    match judged::entry(part, soundness::is_sound(part, device), cells, otp) {
+        Err(refusal) => Effect::Stays(refusal),
+        Ok(()) => admitted_write(part, device, cells, otp, address, word),
     }
 }
 

@@ -16,9 +16,9 @@ pub fn refused(refusal: Refusal, device: Device) -> Answer
     ensures { result ≡ answer refusal 0 device }
 {
     Answer {
-        refusal: refusal,
+        refusal,
         word: 0,
-        device: device,
+        device,
     }
 }
 
@@ -27,8 +27,8 @@ pub fn done(word: u16, device: Device) -> Answer
 {
     Answer {
         refusal: Refusal::Done,
-        word: word,
-        device: device,
+        word,
+        device,
     }
 }
 
@@ -36,16 +36,16 @@ pub fn done(word: u16, device: Device) -> Answer
 pub fn cut_device(meter: Meter, bits: Protection) -> Device
     ensures { result ≡ cut_of meter bits }
 {
-    let protection = bits.after_cut();
     Device {
-        meter: meter,
+        meter,
         command: Command::Ground,
         operation: Operation::Idle,
-        bits: protection,
+        bits: bits.after_cut(),
     }
 }
 
-// Document 01, "Refusals by number".
+// Document 01, "Refusals by number". A function and no `From`: both types are other crates', and docs/COVERAGE.md (F14) names it.
+#[tactic(auto, unfolding(plain::specs::Refusals::number))]
 pub fn number_of(refusal: Refusal) -> u64
     ensures { result ≡ number refusal }
 {

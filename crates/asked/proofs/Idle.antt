@@ -34,9 +34,9 @@ module _ (part : ℕ) (i : List ℕ) (idle : idle_words i ≡ true) where
       (λ s. by_cases (sound (part_named part) (device_of i)) (λ t. rw (s, t, idle-device i idle)) (λ t. rw (s, t)))
       (λ s. rw s)
 
-  pub no-array : face_exposed_array part i ≡ none
+  pub no_array : face_exposed_array part i ≡ none
   unfolding face_exposed_array exposed_now begun_program word_of spot_array
-  no-array =
+  no_array =
       by_cases (stands part i)
       (λ s. by_cases (sound (part_named part) (device_of i)) (λ t. rw (s, t, idle-device i idle)) (λ t. rw (s, t)))
       (λ s. rw s)
@@ -49,9 +49,9 @@ module _ (part : ℕ) (i : List ℕ) (idle : idle_words i ≡ true) where
   unfolding reads_cells
   sound-gives bank = rw (gives bank) (and-true (sound (part_named part) (device_of i)))
 
-  pub every-bank : (bank : ℕ) → face_reads_cells part i bank ≡ (ltb bank (bank_count (part_named part)) && stands_sound part i)
+  pub every_bank : (bank : ℕ) → face_reads_cells part i bank ≡ (ltb bank (bank_count (part_named part)) && stands_sound part i)
   unfolding face_reads_cells stands_sound
-  every-bank bank =
+  every_bank bank =
       by_cases (stands part i)
       (λ s. rw (s, sound-gives bank))
       (λ s. by_cases (ltb bank (bank_count (part_named part))) (λ t. rw (s, t)) (λ t. rw (s, t)))

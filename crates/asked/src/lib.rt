@@ -1,14 +1,13 @@
 // What C asks of a record besides its four events. An idle device is asked by a way of its own, as the most common case.
 #![tactic(auto)]
 
-ghost use Rattle.std.specs.Prelude.{◌≡◌};
-ghost use Rattle.face.specs.Face.{stands_sound, place_number, spot_number, spot_array, face_clock, face_charge};
+ghost use Rattle.std.specs.Prelude.{◌≡◌, MatchOption, None, true, false};
+ghost use Rattle.layout.specs.Image.{device_of};
+ghost use Rattle.face.specs.Face.{stands_sound, number_or_none, place_number, spot_number, spot_array, face_clock, face_charge};
 ghost use Rattle.asked.specs.Asked.{face_exposed_block, face_exposed_word, face_exposed_array, face_reads_cells};
 
-use plain::{Place, Spot};
-
-// No block, no word, no array, no clock, no charge.
-const NONE: u64 = 0xffffffffffffffff;
+use cutting::Exposed;
+use meter::Meter;
 
 pub fn is_sound(part: u64, words: &[u64]) -> bool
     ensures { result ≡ stands_sound part words.now }
@@ -20,87 +19,70 @@ pub fn is_sound(part: u64, words: &[u64]) -> bool
 }
 
 // The same of a device in any state.
+#[tactic(auto, unfolding(face::specs::Face::stands_sound))]
 fn stands_sound(part: u64, words: &[u64]) -> bool
     ensures { result ≡ stands_sound part words.now }
 {
-    if !calls::stands(part, words) {
+    let Some(record) = calls::record(part, words) else {
         return false;
-    }
-    soundness::is_sound(calls::part_named(part), image::device_of(words))
+    };
+    soundness::is_sound(calls::part_named(part), image::device_of(record))
 }
 
-fn place_number(place: Place) -> u64
-    ensures { result ≡ place_number place }
-{
-    match place {
-        Place::Nowhere => NONE,
-        Place::At(n) => n as u64,
-    }
-}
-
-// Of a word, its address
-fn spot_number(spot: Spot) -> u64
-    ensures { result ≡ spot_number spot }
-{
-    match spot {
-        Spot::NoWord => NONE,
-        Spot::In(_, at) => at as u64,
-    }
-}
-
-// and its array.
-fn spot_array(spot: Spot) -> u64
-    ensures { result ≡ spot_array spot }
-{
-    match spot {
-        Spot::NoWord => NONE,
-        Spot::In(array, _) => calls::array_number(array),
-    }
-}
-
-pub fn exposed_block(part: u64, words: &[u64]) -> u64
-    ensures { result ≡ face_exposed_block part words.now }
+// What a cut would change if it came now.
+#[tactic(auto, unfolding(crate::specs::Asked::face_exposed_block, crate::specs::Asked::face_exposed_word, crate::specs::Asked::face_exposed_array, face::specs::Face::place_number, face::specs::Face::spot_number, face::specs::Face::spot_array), using(crate::proofs::Idle::no_block, crate::proofs::Idle::no_word, crate::proofs::Idle::no_array))]
+fn exposed(part: u64, words: &[u64]) -> Exposed
+    ensures block { place_number result.block ≡ face_exposed_block part words.now }
+    ensures word { spot_number result.word ≡ face_exposed_word part words.now }
+    ensures array { spot_array result.word ≡ face_exposed_array part words.now }
 {
     // It has begun nothing.
     if shape::is_idle(words) {
-        return NONE;
+        return nothing();
     }
-    if !calls::stands(part, words) {
-        return NONE;
-    }
-    let exposed = judged::exposed(calls::part_named(part), image::device_of(words));
-    let block = exposed.block;
-    place_number(block)
+    let Some(record) = calls::record(part, words) else {
+        return nothing();
+    };
+    judged::exposed(calls::part_named(part), image::device_of(record))
 }
 
-pub fn exposed_word(part: u64, words: &[u64]) -> u64
-    ensures { result ≡ face_exposed_word part words.now }
+fn nothing() -> Exposed
+    ensures block { result.block ≡ None }
+    ensures word { result.word ≡ None }
 {
-    if shape::is_idle(words) {
-        return NONE;
+    Exposed {
+        block: None,
+        word: None,
     }
-    if !calls::stands(part, words) {
-        return NONE;
-    }
-    let exposed = judged::exposed(calls::part_named(part), image::device_of(words));
-    let word = exposed.word;
-    spot_number(word)
 }
 
-pub fn exposed_array(part: u64, words: &[u64]) -> u64
-    ensures { result ≡ face_exposed_array part words.now }
+#[tactic(auto, unfolding(face::specs::Face::place_number))]
+pub fn exposed_block(part: u64, words: &[u64]) -> Option<u64>
+    ensures { number_or_none result ≡ face_exposed_block part words.now }
 {
-    if shape::is_idle(words) {
-        return NONE;
-    }
-    if !calls::stands(part, words) {
-        return NONE;
-    }
-    let exposed = judged::exposed(calls::part_named(part), image::device_of(words));
-    let spot = exposed.word;
-    spot_array(spot)
+    let block = exposed(part, words).block?;
+    Some(block as u64)
 }
 
+// Of a word, its address
+#[tactic(auto, unfolding(face::specs::Face::spot_number))]
+pub fn exposed_word(part: u64, words: &[u64]) -> Option<u64>
+    ensures { number_or_none result ≡ face_exposed_word part words.now }
+{
+    let spot = exposed(part, words).word?;
+    Some(spot.at as u64)
+}
+
+// and its array.
+#[tactic(auto, unfolding(face::specs::Face::spot_array))]
+pub fn exposed_array(part: u64, words: &[u64]) -> Option<u64>
+    ensures { number_or_none result ≡ face_exposed_array part words.now }
+{
+    let spot = exposed(part, words).word?;
+    Some(calls::array_number(spot.array))
+}
+
+#[tactic(auto, using(crate::proofs::Idle::every_bank, std::proofs::lemmas::Bool::Decides::nat_tests))]
 pub fn reads_cells(part: u64, words: &[u64], bank: usize) -> bool
     ensures { result ≡ face_reads_cells part words.now bank }
 {
@@ -118,45 +100,44 @@ pub fn reads_cells(part: u64, words: &[u64], bank: usize) -> bool
 }
 
 // The same of a device in any state.
+#[tactic(auto, unfolding(crate::specs::Asked::face_reads_cells), using(std::proofs::lemmas::Bool::Decides::nat_tests))]
 fn gives_cells(part: u64, words: &[u64], bank: usize) -> bool
     ensures { result ≡ face_reads_cells part words.now bank }
 {
-    if !calls::stands(part, words) {
+    let Some(record) = calls::record(part, words) else {
         return false;
-    }
+    };
     let named = calls::part_named(part);
     if named.banks() <= bank {
         return false;
     }
-    judged::reads_cells(named, image::device_of(words), bank)
+    judged::reads_cells(named, image::device_of(record), bank)
 }
 
-pub fn clock(part: u64, words: &[u64]) -> u64
-    ensures { result ≡ face_clock part words.now }
+// The meter, of a sound device.
+#[tactic(auto, unfolding(layout::specs::Image::device_of), using(face::proofs::Faces::sound_whole))]
+fn meter(part: u64, words: &[u64]) -> Option<Meter>
+    ensures { MatchOption result (stands_sound part words.now ≡ false) (λ m. (stands_sound part words.now ≡ true) × (m ≡ (device_of words.now).meter)) }
 {
-    if shape::is_idle(words) {
-        if !idling::is_sound(part, words) {
-            return NONE;
-        }
-        return image::meter_of(words).clock;
+    if !is_sound(part, words) {
+        return None;
     }
-    if !stands_sound(part, words) {
-        return NONE;
-    }
-    image::meter_of(words).clock
+    let record = words.as_array().unwrap();
+    Some(image::meter_of(record))
 }
 
-pub fn charge(part: u64, words: &[u64]) -> u64
-    ensures { result ≡ face_charge part words.now }
+#[tactic(auto, unfolding(face::specs::Face::face_clock))]
+pub fn clock(part: u64, words: &[u64]) -> Option<u64>
+    ensures { number_or_none result ≡ face_clock part words.now }
 {
-    if shape::is_idle(words) {
-        if !idling::is_sound(part, words) {
-            return NONE;
-        }
-        return image::meter_of(words).charge;
-    }
-    if !stands_sound(part, words) {
-        return NONE;
-    }
-    image::meter_of(words).charge
+    let meter = meter(part, words)?;
+    Some(meter.clock)
+}
+
+#[tactic(auto, unfolding(face::specs::Face::face_charge))]
+pub fn charge(part: u64, words: &[u64]) -> Option<u64>
+    ensures { number_or_none result ≡ face_charge part words.now }
+{
+    let meter = meter(part, words)?;
+    Some(meter.charge)
 }

@@ -1,4 +1,5 @@
 -- What `machine::exposed` and `machine::reads_cells` tell is so.
+use Rattle.std.specs.Prelude.{Option, Some}
 use Prim.Native.Nat.{ℕ, ◌<◌, ◌≤◌}
 use mathlib.Core.Path.{◌≡◌, refl, sym, ap, ◌∙◌}
 use mathlib.Core.Bool.{true, false}
@@ -11,17 +12,13 @@ use Rattle.plain.specs.declared.Array.{Array}
 use Rattle.plain.specs.declared.Array.TheVariants.{Main}
 use Rattle.plain.specs.declared.Refusal.TheVariants.{Done, Debris}
 use Rattle.plain.specs.declared.Written.{Written}
-use Rattle.plain.specs.declared.Place.TheVariants.{At}
-use Rattle.plain.specs.declared.Spot.TheVariants.{In}
-use Rattle.plain.specs.declared.BegunProgram.{BegunProgram}
-use Rattle.plain.specs.declared.BegunProgram.TheVariants.{Writes}
 use Rattle.plain.specs.declared.Device.{Device}
 use Rattle.plain.specs.Holds.{in_block}
 use Rattle.plain.specs.Lent.{Lent, word_at, Whole}
 use Rattle.plain.specs.Programs.{writes, first_word, array_written}
 use Rattle.plain.specs.Record.{answer}
 use Rattle.plain.specs.Sound.{sound}
-use Rattle.plain.specs.Cut.{word_of, begun_program, debris_needed, cut_lent}
+use Rattle.plain.specs.Cut.{word_of, begun_program, debris_needed, cut_lent, spot}
 use Rattle.plain.specs.Machine.{Outcome, outcome, Fit, read_event, cut_event, step}
 use Rattle.plain.proofs.BegunSound.{begun-lies}
 use Rattle.plain.proofs.CutCells.{untouched}
@@ -46,13 +43,13 @@ unfolding exposed_now
 exposed-told p r s = rw s
 
 -- the word that a begun program is named by is all that it writes
-named : (p : Part) (w : BegunProgram) (d : Written) (y : Array) (x : ℕ) → w ≡ Writes d → writes d y x ≡ true → word_of w ≡ In y x
+named : (p : Part) (w : Option Written) (d : Written) (y : Array) (x : ℕ) → w ≡ Some d → writes d y x ≡ true → word_of w ≡ Some (spot y x)
 unfolding word_of
 named p w d y x e h =
     let one = one_written p d (array_written d) y (first_word d) x (first-written p d) h in
-    rw e (λ k. In (one.0 k) (one.1 k))
+    rw e (λ k. Some (spot (one.0 k) (one.1 k)))
 
-module _ (p : Part) (r : Device) (l : Lent) (debris : List ℕ) (y : Array) (x : ℕ) (no_word : (exposed_now p r).word ≡ In y x → ⊥) (no_block : (b : ℕ) → (exposed_now p r).block ≡ At b → in_block p b y x ≡ false) where
+module _ (p : Part) (r : Device) (l : Lent) (debris : List ℕ) (y : Array) (x : ℕ) (no_word : (exposed_now p r).word ≡ Some (spot y x) → ⊥) (no_block : (b : ℕ) → (exposed_now p r).block ≡ Some b → in_block p b y x ≡ false) where
   abbrev Spares : Outcome → Type 0
   Spares o = word_at o.lent y x ≡ word_at l y x
 

@@ -30,7 +30,7 @@ use Rattle.remaining.proofs.Counting.{rest-sums}
 use Rattle.layout.specs.Image.{device_of}
 use Rattle.judged.specs.Foreseen.{end_now, change_now, debris_now}
 use Rattle.face.specs.Face.{part_named, stands, stands_sound, none}
-use Rattle.outlook.specs.Foreseen.{figure_number, change_time, change_block, change_word, change_array, face_until_end, face_until_change, face_changing_block, face_changing_word, face_changing_array, face_debris_needed}
+use Rattle.outlook.specs.Foreseen.{change_time, change_block, change_word, change_array, face_until_end, face_until_change, face_changing_block, face_changing_word, face_changing_array, face_debris_needed}
 use Rattle.audit.specs.CallForeseen.{runs_in, ToldCalls}
 
 -- ---- what is told of words that stand for a sound record
@@ -48,7 +48,7 @@ module _ (part : ℕ) (i : List ℕ) (s : stands_sound part i ≡ true) where
   change = change_of (runs_in i)
 
   pub end-told : face_until_end part i ≡ until_end (part_named part) (runs_in i)
-  unfolding face_until_end end_now figure_number
+  unfolding face_until_end end_now
   end-told = rw (stood, judged)
 
   pub time-told : face_until_change part i ≡ change_time change
@@ -68,7 +68,7 @@ module _ (part : ℕ) (i : List ℕ) (s : stands_sound part i ≡ true) where
   array_told = rw (stood, judged)
 
   pub debris-told : face_debris_needed part i ≡ debris_needed (part_named part) (device_of i).operation
-  unfolding face_debris_needed debris_now figure_number
+  unfolding face_debris_needed debris_now
   debris-told = rw (stood, judged)
 
 -- ---- no time is K5L_NONE

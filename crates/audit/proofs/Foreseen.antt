@@ -1,4 +1,5 @@
 -- What `machine::until_end`, `until_change` and `debris_needed` tell of a record comes so.
+use Rattle.std.specs.Prelude.{Option, None, Some}
 use Prim.Native.Nat.{ℕ, ◌+◌, ◌-◌, ◌≤◌}
 use mathlib.Core.Path.{◌≡◌, refl, sym, ap, ◌∙◌}
 use mathlib.Core.Bool.{Bool, true, false, cond}
@@ -12,10 +13,6 @@ use Rattle.geometry.specs.declared.Part.TheVariants.{Small, Full}
 use Rattle.geometry.specs.Parts.{unit_of, size_in, size_of, word_count}
 use Rattle.plain.specs.declared.Refusal.{Refusal}
 use Rattle.plain.specs.declared.Refusal.TheVariants.{Done, State, Cells, Clock}
-use Rattle.plain.specs.declared.BegunProgram.{BegunProgram}
-use Rattle.plain.specs.declared.BegunProgram.TheVariants.{NoProgram, Writes}
-use Rattle.plain.specs.declared.Place.{Place}
-use Rattle.plain.specs.declared.Place.TheVariants.{Nowhere, At}
 use Rattle.plain.specs.declared.Operation.{Operation}
 use Rattle.plain.specs.declared.Device.{Device}
 use Rattle.plain.specs.declared.Answer.{Answer}
@@ -42,12 +39,12 @@ use Rattle.foretold.specs.Foretold.{come_by, comes_at, Unchanged, Changed}
 use Rattle.foretold.proofs.Ends.{ends-then}
 use Rattle.foretold.proofs.Drifts.{unchanged-till}
 use Rattle.foretold.proofs.Lands.{changed_then}
-use Rattle.judged.specs.declared.foreseen.Figure.TheVariants.{Unknown, Known}
 use Rattle.judged.specs.Foreseen.{end_now, change_now, debris_now}
 use Rattle.outlook.specs.Foreseen.{figure_number}
 use Rattle.audit.specs.Performed.{Allowed}
 use Rattle.audit.specs.Foreseen.{EndForeseen, EndNears, AsBefore, JustChanged, ChangeForeseen, most_debris, DebrisForeseen}
 use Rattle.audit.proofs.Same.{Is, allowed-is}
+use Rattle.plain.specs.declared.Written.{Written}
 
 -- two answers with one refusal and one word
 unfoldable pub Alike : Outcome → Outcome → Type 0
@@ -149,8 +146,8 @@ module _ {p : Part} {r : Device} {l after : Lent} {k : ℕ} {y : Answer} (c : Al
   lent_is = wait-is.lent ∙ ap (λ (o : Outcome). o.lent) allowed-taken.is
 
 -- a figure that is told of a sound record
-end-told : (p : Part) (r : Device) (n : ℕ) → sound p r ≡ true → Known n ≡ end_now p r → n ≡ until_end p (running_of r.operation)
-unfolding end_now figure_number
+end-told : (p : Part) (r : Device) (n : ℕ) → sound p r ≡ true → Some n ≡ end_now p r → n ≡ until_end p (running_of r.operation)
+unfolding end_now
 end-told p r n s e = rw s at (ap figure_number e)
 
 pub end-foreseen : (p : Part) → EndForeseen p
@@ -208,15 +205,15 @@ size-most : (p : Part) (b : ℕ) → size_of p b ≤ size_of p 8
 unfolding size_in
 size-most p b = mul-le-mul_left (unit_of p) (eight (ltb b 8) (ltb b 262) (ltb b 270))
 
-block-most : (p : Part) (b : Place) → block_debris p b ≤ size_of p 8
+block-most : (p : Part) (b : Option ℕ) → block_debris p b ≤ size_of p 8
 unfolding block_debris
-block-most p Nowhere = omega arith
-block-most p (At b) = size-most p b
+block-most p None = omega arith
+block-most p (Some b) = size-most p b
 
-program-most : (q : BegunProgram) → program_debris q ≤ 1
+program-most : (q : Option Written) → program_debris q ≤ 1
 unfolding program_debris debris_words
-program-most NoProgram = lit≤ tt
-program-most (Writes d) = lit≤ tt
+program-most None = lit≤ tt
+program-most (Some d) = lit≤ tt
 
 pub needed-most : (p : Part) (o : Operation) → debris_needed p o ≤ most_debris p
 unfolding debris_needed
@@ -228,7 +225,7 @@ unfolding unit_of size_in
 most-debris = (refl, refl)
 
 pub debris-foreseen : (p : Part) → DebrisForeseen p
-unfolding step debris_now figure_number
+unfolding step debris_now
 debris-foreseen p r l after debris n y told whole c =
     by_cases (sound p r)
     (λ s.
@@ -239,5 +236,5 @@ debris-foreseen p r l after debris n y told whole c =
       ((λ h. ap (λ (o : Outcome). o.answer.refusal) (cut-debris p r l debris fit h)), needed-most p r.operation),
     ))
     (λ s.
-    let none : Known n ≡ Unknown = rw s at told in
+    let none : Some n ≡ None = rw s at told in
     let z : ◌≡◌ {A = ℕ} 0 1 = cc in absurd (omega arith))

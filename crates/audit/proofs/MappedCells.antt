@@ -1,4 +1,5 @@
 -- No read, wait, cut or range changes a cell of a bank that gives its cells.
+use Rattle.std.specs.Prelude.{Option, Some}
 use Prim.Native.Nat.{ℕ, zero, suc}
 use mathlib.Core.Path.{◌≡◌, refl, sym, ap, ◌∙◌}
 use mathlib.Core.Bool.{true, false, ◌&&◌, not}
@@ -21,9 +22,6 @@ use Rattle.plain.specs.declared.Inside.TheVariants.{Nothing, Runs}
 use Rattle.plain.specs.declared.Operation.{Operation}
 use Rattle.plain.specs.declared.Operation.TheVariants.{Idle, Programming, ProgramSuspended, Window, Erasing, Recovering, EraseSuspended, ChipErasing, InOneTime, OneTimeProgramming}
 use Rattle.plain.specs.declared.Running.TheVariants.{Programs, Erases}
-use Rattle.plain.specs.declared.Place.{Place}
-use Rattle.plain.specs.declared.Place.TheVariants.{At}
-use Rattle.plain.specs.declared.BegunProgram.TheVariants.{Writes}
 use Rattle.plain.specs.declared.Command.{Command}
 use Rattle.plain.specs.declared.Device.{Device}
 use Rattle.plain.specs.Cut.{if_begun, begun_block, begun_inside, begun_program, begun, program_begun, debris_needed}
@@ -122,18 +120,18 @@ module _ (p : Part) (x : ℕ) where
 
   -- ---- a cut
 
-  program-misses : (q : Program) (d : Written) → program_begun p q ≡ Writes d → eqb (bank_of p x) (bank_written p q.writes) ≡ false → writes d Main x ≡ false
+  program-misses : (q : Program) (d : Written) → program_begun p q ≡ Some d → eqb (bank_of p x) (bank_written p q.writes) ≡ false → writes d Main x ≡ false
   program-misses q d e away = rw (← (begins p q d e).what) (misses q.writes away)
 
-  begun-hand : (left full hand b : ℕ) → if_begun left full hand ≡ At b → hand ≡ b
-  begun-hand left full hand b = by-test (λ (y : Place). y ≡ At b → hand ≡ b) (begun left full) (λ t e. cc) (λ t e. nowhere e)
+  begun-hand : (left full hand b : ℕ) → if_begun left full hand ≡ Some b → hand ≡ b
+  begun-hand left full hand b = by-test (λ (y : Option ℕ). y ≡ Some b → hand ≡ b) (begun left full) (λ t e. cc) (λ t e. nowhere e)
 
-  inside-word : (i : Inside) → not (runs_in p (running_inside i) (bank_of p x)) ≡ true → (d : Written) → begun_inside p i ≡ Writes d → writes d Main x ≡ false
+  inside-word : (i : Inside) → not (runs_in p (running_inside i) (bank_of p x)) ≡ true → (d : Written) → begun_inside p i ≡ Some d → writes d Main x ≡ false
   unfolding running_inside runs_in begun_inside
   inside-word Nothing h d e = no_program e
   inside-word (Runs q) h d e = program-misses q d e (not-true _ h)
 
-  no_word : (o : Operation) → Away o → (d : Written) → begun_program p o ≡ Writes d → writes d Main x ≡ false
+  no_word : (o : Operation) → Away o → (d : Written) → begun_program p o ≡ Some d → writes d Main x ≡ false
   unfolding begun_program running_of suspension_of runs_in rests_in
   no_word Idle h d e = no_program e
   no_word (Programming q) h d e = program-misses q d e (not-true _ (both_left (not (eqb (bank_of p x) (bank_written p q.writes))) _ h))
@@ -146,10 +144,10 @@ module _ (p : Part) (x : ℕ) where
   no_word InOneTime h d e = no_program e
   no_word (OneTimeProgramming q) h d e = program-misses q d e (not-true _ (both_left (not (eqb (bank_of p x) (bank_written p q.writes))) _ h))
 
-  not-in-hand : (left full hand : ℕ) → not (eqb (bank_of p x) (bank_of_block p hand)) ≡ true → (b : ℕ) → if_begun left full hand ≡ At b → block_of p x ≡ b → ⊥
+  not-in-hand : (left full hand : ℕ) → not (eqb (bank_of p x) (bank_of_block p hand)) ≡ true → (b : ℕ) → if_begun left full hand ≡ Some b → block_of p x ≡ b → ⊥
   not-in-hand left full hand h b e = in_block b (rw (← begun-hand left full hand b e) (not-true _ h))
 
-  no_block : (o : Operation) → Away o → (b : ℕ) → begun_block p o ≡ At b → block_of p x ≡ b → ⊥
+  no_block : (o : Operation) → Away o → (b : ℕ) → begun_block p o ≡ Some b → block_of p x ≡ b → ⊥
   unfolding begun_block running_of suspension_of runs_in rests_in
   no_block Idle h b e = nowhere e
   no_block (Programming q) h b e = nowhere e

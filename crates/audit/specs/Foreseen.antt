@@ -1,4 +1,5 @@
 -- What is promised of what `machine` foretells of a record: for every answer that the contracts allow.
+use Rattle.std.specs.Prelude.{Some}
 use Rattle.std.specs.Prelude.{ℕ, ◌+◌, ◌-◌, ◌<◌, ◌≤◌, ◌≡◌, true, false, List, leb, length}
 use Rattle.geometry.specs.declared.Part.{Part}
 use Rattle.geometry.specs.Parts.{size_of}
@@ -13,7 +14,6 @@ use Rattle.plain.specs.Operations.{running_of, suspension_of}
 use Rattle.plain.specs.Sound.{is_still}
 use Rattle.remaining.specs.declared.Change.{Change}
 use Rattle.foretold.specs.Foretold.{come_by, comes_at, changes_at, timeless, completed}
-use Rattle.judged.specs.declared.foreseen.Figure.TheVariants.{Known}
 use Rattle.machine.proofs.until_end.Reads as UntilEnd
 use Rattle.machine.proofs.until_change.Reads as UntilChange
 use Rattle.machine.proofs.debris_needed.Reads as DebrisNeeded
@@ -23,14 +23,14 @@ use Rattle.audit.specs.Performed.{Allowed}
 
 abbrev pub EndForeseen : Part → Type 0
 EndForeseen p =
-    (r : Device) (l after : Lent) (n k : ℕ) (y : Answer) → UntilEnd.Learnt tt (p, (r, tt)) (Known n) (p, (r, tt))
+    (r : Device) (l after : Lent) (n k : ℕ) (y : Answer) → UntilEnd.Learnt tt (p, (r, tt)) (Some n) (p, (r, tt))
     → Allowed p r l (wait k) y after → y.refusal ≡ Done → is_still (running_of y.device.operation) ≡ leb n k
 
 -- asked again after the wait, it is as much less
 abbrev pub EndNears : Part → Type 0
 EndNears p =
-    (r : Device) (l after : Lent) (n m k : ℕ) (y : Answer) → UntilEnd.Learnt tt (p, (r, tt)) (Known n) (p, (r, tt))
-    → Allowed p r l (wait k) y after → y.refusal ≡ Done → UntilEnd.Learnt tt (p, (y.device, tt)) (Known m) (p, (y.device, tt)) → m ≡ n - k
+    (r : Device) (l after : Lent) (n m k : ℕ) (y : Answer) → UntilEnd.Learnt tt (p, (r, tt)) (Some n) (p, (r, tt))
+    → Allowed p r l (wait k) y after → y.refusal ≡ Done → UntilEnd.Learnt tt (p, (y.device, tt)) (Some m) (p, (y.device, tt)) → m ≡ n - k
 
 -- ---- the next change
 
@@ -64,6 +64,6 @@ most_debris p = size_of p 8 + 1
 
 abbrev pub DebrisForeseen : Part → Type 0
 DebrisForeseen p =
-    (r : Device) (l after : Lent) (debris : List ℕ) (n : ℕ) (y : Answer) → DebrisNeeded.Learnt tt (p, (r, tt)) (Known n) (p, (r, tt))
+    (r : Device) (l after : Lent) (debris : List ℕ) (n : ℕ) (y : Answer) → DebrisNeeded.Learnt tt (p, (r, tt)) (Some n) (p, (r, tt))
     → Whole p l → Allowed p r l (cut debris) y after
     → (n ≤ length debris → y.refusal ≡ Done) × ((length debris < n → y.refusal ≡ Debris) × (n ≤ most_debris p))

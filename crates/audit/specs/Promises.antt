@@ -1,4 +1,5 @@
 -- The promises of plain/specs/Promises, of the public functions: for every answer that their contracts allow.
+use Rattle.std.specs.Prelude.{Some}
 use Rattle.std.specs.Prelude.{ℕ, ◌<◌, ◌≡◌, true, false, List}
 use Rattle.geometry.specs.declared.Part.{Part}
 use Rattle.geometry.specs.Parts.{word_count, bank_of}
@@ -6,8 +7,6 @@ use Rattle.plain.specs.declared.Array.{Array}
 use Rattle.plain.specs.declared.Array.TheVariants.{Main}
 use Rattle.plain.specs.declared.Refusal.TheVariants.{Done}
 use Rattle.plain.specs.declared.Written.{Written}
-use Rattle.plain.specs.declared.Place.TheVariants.{At}
-use Rattle.plain.specs.declared.Spot.TheVariants.{In}
 use Rattle.plain.specs.declared.Device.{Device}
 use Rattle.plain.specs.declared.Answer.{Answer}
 use Rattle.plain.specs.Ends.{ends_in_wait}
@@ -25,6 +24,7 @@ use Rattle.cutting.specs.declared.begun.Exposed.{Exposed}
 use Rattle.machine.proofs.exposed.Reads as Exposes
 use Rattle.machine.proofs.reads_cells.Reads as Maps
 use Rattle.audit.specs.Performed.{Allowed, Runs}
+use Rattle.plain.specs.Cut.{spot}
 
 -- demand 3: after any run from `machine::fresh`, and a cut that is answered DONE
 abbrev pub Demand3Code : Part → Type 0
@@ -59,7 +59,7 @@ abbrev pub Spared : Part → Type 0
 Spared p =
     (r : Device) (l after : Lent) (debris : List ℕ) (y : Answer) (told : Exposed) (z : Array) (x : ℕ)
     → Exposes.Learnt tt (p, (r, tt)) told (p, (r, tt)) → Allowed p r l (cut debris) y after
-    → (told.word ≡ In z x → ⊥) → ((b : ℕ) → told.block ≡ At b → in_block p b z x ≡ false) → word_at after z x ≡ word_at l z x
+    → (told.word ≡ Some (spot z x) → ⊥) → ((b : ℕ) → told.block ≡ Some b → in_block p b z x ≡ false) → word_at after z x ≡ word_at l z x
 
 -- where `machine::reads_cells` said yes of a bank, a read there gives the cell and changes nothing
 abbrev pub ReadsCells : Part → Type 0

@@ -1,18 +1,19 @@
 -- An item fed byte by byte is the number and the words that its bytes are.
+use native.Mathlib.Omega.{arith}
 use Prim.Native.Nat.{ℕ}
 use mathlib.Core.Bool.{Bool, true, false}
-use mathlib.Core.Path.{◌≡◌, refl, sym, ◌∙◌, ap}
+use mathlib.Core.Path.{◌≡◌, refl, ◌∙◌, ap}
 use mathlib.Core.List.{List, [], ◌∷◌, ◌++◌}
 use borrow.Author.Tests.{eqb-true}
-use lib.Dec.{eqb, ltb}
+use lib.Dec.{eqb}
+use Rattle.std.proofs.lemmas.Grind.{common_steps}
 use Rattle.spelling.specs.declared.numbers.Number.{Number}
-use Rattle.language.specs.declared.Value.{Value}
+use Rattle.std.specs.Prelude.{Option, Some, None}
 use Rattle.spelling.specs.declared.Item.{Item}
 use Rattle.spelling.specs.declared.Times.{Times}
 use Rattle.spelling.specs.Numbers.{grown_to, decimal_on, hexadecimal_on, next_number, value_of}
 use Rattle.spelling.specs.Items.{item, no_item, next_item, spelt_on, remarks_on, starred_by, counted_by, unrepeated, number_of}
 use Rattle.language.specs.Language.{digit_of, figure}
-use Rattle.conformance.proofs.Cases.{by-test}
 use Rattle.conformance.proofs.NumberBytes.{number_over, wrong-over, number-over}
 
 -- the item with all these bytes more
@@ -38,7 +39,7 @@ star-wrong Number.Prefix = refl
 star-wrong (Number.Hexadecimal v) = refl
 star-wrong Number.Wrong = refl
 
-pub star-over : (n : Number) (bytes : List ℕ) → value_of (number_over (next_number n 42) bytes) ≡ Value.Absent
+pub star-over : (n : Number) (bytes : List ℕ) → value_of (number_over (next_number n 42) bytes) ≡ None
 star-over n bytes = rw (star-wrong n, wrong-over bytes)
 
 -- one byte of an item: a `*`, or another
@@ -53,40 +54,28 @@ module _ (bytes : List ℕ) (l : ℕ) (r : Bool) (t : Times) (n : Number) (b : �
 
 -- ---- as a number
 
-abbrev Numbers : Times → Number → List ℕ → Value → Type 0
+abbrev Numbers : Times → Number → List ℕ → Option ℕ → Type 0
 Numbers t n bytes v = (l : ℕ) (r : Bool) → number_of (item_over (item l r t n) bytes) ≡ v
 
-wrong-number : (bytes : List ℕ) (n : Number) → Numbers Times.Wrong n bytes Value.Absent
+wrong-number : (bytes : List ℕ) (n : Number) → Numbers Times.Wrong n bytes None
 unfolding item_over unrepeated starred_by
 wrong-number [] n l r = refl
-wrong-number (b ∷ bytes) n l r =
-    by-test (eqb b 42)
-    (λ e. rw (over-star bytes l r Times.Wrong n b e) (wrong-number bytes _ _ _))
-    (λ e. rw (over-byte bytes l r Times.Wrong n b e) (wrong-number bytes _ _ _))
+wrong-number (b ∷ bytes) n l r = grind (arith, common_steps, over-star, over-byte, wrong-number bytes)
 
-of_number : (bytes : List ℕ) (n : Number) (k : ℕ) → Numbers (Times.Of k) n bytes Value.Absent
+of_number : (bytes : List ℕ) (n : Number) (k : ℕ) → Numbers (Times.Of k) n bytes None
 unfolding item_over unrepeated starred_by
 of_number [] n k l r = refl
-of_number (b ∷ bytes) n k l r =
-    by-test (eqb b 42)
-    (λ e. rw (over-star bytes l r (Times.Of k) n b e) (wrong-number bytes _ _ _))
-    (λ e. rw (over-byte bytes l r (Times.Of k) n b e) (of_number bytes _ k _ _))
+of_number (b ∷ bytes) n k l r = grind (arith, common_steps, over-star, over-byte, wrong-number bytes, of_number bytes)
 
-counted-number : (bytes : List ℕ) (n : Number) (v : Value) → Numbers (counted_by v) n bytes Value.Absent
+counted-number : (bytes : List ℕ) (n : Number) (v : Option ℕ) → Numbers (counted_by v) n bytes None
 unfolding counted_by
-counted-number bytes n Value.Absent l r = wrong-number bytes n l r
-counted-number bytes n (Value.Of k) l r =
-    by-test (ltb 16384 k)
-    (λ e. rw e (wrong-number bytes n l r))
-    (λ e. rw e (of_number bytes n k l r))
+counted-number bytes n None l r = wrong-number bytes n l r
+counted-number bytes n (Some k) l r = grind (arith, common_steps, wrong-number, of_number)
 
 once-number : (bytes : List ℕ) (n : Number) → Numbers Times.Once n bytes (value_of (number_over n bytes))
 unfolding item_over unrepeated starred_by number_over
 once-number [] n l r = refl
-once-number (b ∷ bytes) n l r =
-    by-test (eqb b 42)
-    (λ e. rw (over-star bytes l r Times.Once n b e, eqb-true b 42 e) (counted-number bytes Number.Nothing (value_of n) _ _ ∙ sym (star-over n bytes)))
-    (λ e. rw (over-byte bytes l r Times.Once n b e) (once-number bytes (next_number n b) _ _))
+once-number (b ∷ bytes) n l r = grind (arith, common_steps, over-star, over-byte, eqb-true, star-over, counted-number bytes, once-number bytes)
 
 pub item-number : (bytes : List ℕ) → number_of (item_of bytes) ≡ figure bytes
 item-number bytes = once-number bytes Number.Nothing 1 false ∙ number-over bytes

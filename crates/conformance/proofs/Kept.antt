@@ -3,12 +3,11 @@ use Prim.Native.Nat.{ℕ, ◌+◌, ◌-◌, ◌<◌, ◌≤◌}
 use mathlib.Core.Path.{◌≡◌, refl, sym, ◌∙◌}
 use mathlib.Core.List.{List, [], ◌++◌, append_assoc, append-nil}
 use native.Mathlib.Omega.{arith}
-use borrow.Author.Tests.{lt-leb, leb-true, leb-false}
-use lib.Dec.{leb}
+use borrow.Author.Tests.{lt-leb}
 use lib.ListN.{length, take, drop, replicate, length-append, length-replicate, length-drop, replicate-append-replicate}
 use lib.Seq.{take_at, take_all, take-append-le, length-take-le}
+use Rattle.std.proofs.lemmas.Grind.{common_steps}
 use Rattle.forms.specs.Forms.{put_count, put_words}
-use Rattle.conformance.proofs.Cases.{by-test}
 
 module _ (room : ℕ) where
   pub data Kept (all : List ℕ) (count : ℕ) (words : List ℕ) : Type 0 where
@@ -56,10 +55,7 @@ module _ (room : ℕ) where
 
   pub kept_put : (all words : List ℕ) (count times word : ℕ) → Kept all count words → Kept (all ++ replicate times word) (put_count room count times) (put_words words count times word)
   unfolding put_count put_words
-  kept_put all words count times word (whole same below begins size) =
-      by-test (leb (count + times) room)
-      (λ e. rw (size, e) (kept-fits all words count times word same begins size (leb-true (count + times) room e)))
-      (λ e. rw (size, e) (rw size at (kept-over all words count times word same begins size below (leb-false (count + times) room e))))
+  kept_put all words count times word (whole same below begins size) = grind (arith, common_steps, kept-fits all words count times word same begins size, kept-over all words count times word same begins size below)
   kept_put all words count times word (more over is ends size) =
       let none : room - count ≡ 0 = omega arith in
       rw (size, lt-leb (count + times) room (omega arith), none, append-nil, take_all count words (omega arith))

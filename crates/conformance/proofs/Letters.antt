@@ -1,31 +1,28 @@
 -- The letters that an item keeps tell the words of the language from all others, and its first byte is kept.
 use Prim.Native.Nat.{ℕ, ◌+◌, ◌*◌, ◌<◌, ◌≤◌}
 use mathlib.Core.Bool.{true, false}
-use mathlib.Core.Path.{◌≡◌, refl, sym, ◌∙◌, ap}
+use mathlib.Core.Path.{◌≡◌, refl, sym, ◌∙◌}
 use mathlib.Core.List.{List, [], ◌∷◌, ◌++◌, append-nil}
 use native.Mathlib.Omega.{arith}
-use borrow.Author.Tests.{eq-eqb, ne_eqb, ltb-true, eqb-true}
-use lib.Dec.{eqb, ltb}
+use borrow.Author.Tests.{eq-eqb, ne_eqb, eqb-true}
+use lib.Dec.{eqb}
+use Rattle.std.proofs.lemmas.Grind.{common_steps}
 use Rattle.spelling.specs.declared.Item.{Item}
 use Rattle.spelling.specs.Items.{no_item, next_item, spelt_on, remarks_on}
 use Rattle.language.specs.Language.{Bytes, same, is_remark}
-use Rattle.conformance.proofs.Cases.{by-test}
 use Rattle.conformance.proofs.ItemBytes.{item_over, item_of}
 
 unfoldable pub letters_over : (letters : ℕ) (bytes : List ℕ) → ℕ
 letters_over l [] = l
 letters_over l (b ∷ bytes) = letters_over (spelt_on l b) bytes
 
-clash : false ≡ true → ⊥
-clash e = let z : ◌≡◌ {A = ℕ} 0 1 = cc in omega arith
-
 next-letters : (i : Item) (b : ℕ) → (next_item i b).letters ≡ spelt_on i.letters b
 unfolding next_item
-next-letters i b = by-test (eqb b 42) (λ e. rw e) (λ e. rw e)
+next-letters i b = grind (arith, common_steps)
 
 next-remark : (i : Item) (b : ℕ) → (next_item i b).remark ≡ remarks_on i.letters i.remark b
 unfolding next_item
-next-remark i b = by-test (eqb b 42) (λ e. rw e) (λ e. rw e)
+next-remark i b = grind (arith, common_steps)
 
 over-letters : (bytes : List ℕ) (i : Item) → (item_over i bytes).letters ≡ letters_over i.letters bytes
 unfolding item_over letters_over
@@ -39,10 +36,7 @@ item-letters bytes = over-letters bytes no_item
 
 grown-letters : (l b : ℕ) → 1 ≤ l → 256 ≤ spelt_on l b
 unfolding spelt_on
-grown-letters l b h =
-    by-test (ltb 0xffffffffffff l)
-    (λ e. rw e (omega (arith, ltb-true 0xffffffffffff l e)))
-    (λ e. rw e (omega arith))
+grown-letters l b h = grind (arith, common_steps)
 
 grown-over : (bytes : List ℕ) (l : ℕ) → 256 ≤ l → 256 ≤ letters_over l bytes
 unfolding letters_over
@@ -100,10 +94,7 @@ backward-some (b ∷ bytes) = omega (arith, grown-letters (backward bytes) b (ba
 -- below 2^48 nothing is left out
 plainly : (l b : ℕ) → spelt_on l b < 0x1000000000000 → spelt_on l b ≡ l * 256 + b
 unfolding spelt_on
-plainly l b h =
-    by-test (ltb 0xffffffffffff l)
-    (λ e. absurd (omega (arith, ltb-true 0xffffffffffff l e, rw e at h)))
-    (λ e. rw e)
+plainly l b h = grind (arith, common_steps)
 
 backward-same : (xs ys : List ℕ) → Bytes xs → Bytes ys → backward ys < 0x1000000000000 → backward xs ≡ backward ys → xs ≡ ys
 unfolding backward
@@ -130,17 +121,11 @@ letters-same bytes letters p q h e =
 same_true : (bytes letters : List ℕ) → same bytes letters ≡ true → bytes ≡ letters
 unfolding same
 same_true [] [] e = refl
-same_true [] (l ∷ letters) e = absurd (clash e)
-same_true (b ∷ bytes) [] e = absurd (clash e)
-same_true (b ∷ bytes) (l ∷ letters) e =
-    by-test (eqb b l)
-    (λ f. rw (eqb-true b l f, same_true bytes letters (rw f at e)))
-    (λ f. absurd (clash (rw f at e)))
+same_true [] (l ∷ letters) e = grind (arith, common_steps)
+same_true (b ∷ bytes) [] e = grind (arith, common_steps)
+same_true (b ∷ bytes) (l ∷ letters) e = grind (arith, common_steps, eqb-true, same_true bytes letters)
 
 -- the number of a word's letters is a byte string's exactly where the two are the same
 pub letters-tell : (letters : List ℕ) → Bytes letters → letters_over 1 letters < 0x1000000000000 → same letters letters ≡ true
     → (bytes : List ℕ) → Bytes bytes → eqb (letters_over 1 bytes) (letters_over 1 letters) ≡ same bytes letters
-letters-tell letters q h self bytes p =
-    by-test (same bytes letters)
-    (λ e. rw (e, eq-eqb _ _ (ap (letters_over 1) (same_true bytes letters e))))
-    (λ e. rw (e, ne_eqb _ _ (λ f. clash (sym e ∙ (ap (λ (x : List ℕ). same x letters) (letters-same bytes letters p q h f) ∙ self)))))
+letters-tell letters q h self bytes p = grind (arith, common_steps, same_true bytes letters, letters-same bytes letters p q h, eq-eqb, ne_eqb)

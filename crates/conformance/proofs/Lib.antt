@@ -1,4 +1,3 @@
-pub mod Cases
 pub mod NumberBytes
 pub mod ItemBytes
 pub mod ItemWords

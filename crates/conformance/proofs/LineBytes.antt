@@ -1,12 +1,14 @@
 -- A line fed byte by byte asks for what its bytes mean.
-use Prim.Native.Nat.{ℕ, ◌+◌, ◌<◌}
-use mathlib.Core.Bool.{false, ◌||◌}
+use Prim.Native.Nat.{ℕ, ◌<◌}
+use mathlib.Core.Bool.{false}
 use mathlib.Core.Path.{◌≡◌, refl, ◌∙◌}
 use mathlib.Core.List.{List, [], ◌∷◌, ◌++◌}
 use native.Mathlib.Omega.{arith}
-use borrow.Author.Tests.{leb-true, eqb-true}
-use lib.Dec.{eqb, leb}
-use lib.ListN.{length, length-append, length-replicate, length-take, length-drop}
+use borrow.Author.Tests.{eqb-true}
+use lib.Dec.{eqb}
+use lib.ListN.{length}
+use Rattle.std.proofs.lemmas.Grind.{common_steps}
+use Rattle.std.specs.Prelude.{Option, Some, None}
 use Rattle.spelling.specs.declared.Item.{Item}
 use Rattle.spelling.specs.declared.Words.{Words}
 use Rattle.forms.specs.declared.Form.{Form}
@@ -15,12 +17,11 @@ use Rattle.std.specs.Prelude.{if◌then◌else◌}
 use Rattle.spelling.specs.Items.{no_item, next_item, words_of}
 use Rattle.forms.specs.Forms.{taken_form, taken_words, kept_by, stored_to, put_words}
 use Rattle.script.specs.Orders.{order_of}
-use Rattle.script.specs.Lines.{line, released, read_on, read_words, fed_line, fed_words, ended_order, ended_words, separates_items}
+use Rattle.script.specs.Lines.{line, fed_line, fed_words, ended_order, ended_words, separates_items}
 use Rattle.language.specs.Language.{Bytes, Meaning, without_cr, before, items_from, meaning}
 use Rattle.language.specs.Orders.{Within, seen}
-use Rattle.script.proofs.Within.{order-within}
+use Rattle.script.proofs.Within.{order_within}
 use Rattle.conformance.specs.Reading.{read_from, read_line}
-use Rattle.conformance.proofs.Cases.{by-test}
 use Rattle.conformance.proofs.ItemBytes.{item_over, item_of, item-snoc}
 use Rattle.conformance.proofs.Letters.{some-letters}
 use Rattle.conformance.proofs.LineItems.{ordered}
@@ -30,15 +31,12 @@ use Rattle.conformance.proofs.LineVerbs.{Begins, line-ordered}
 
 put-size : (kept : List ℕ) (n t w : ℕ) → length (put_words kept n t w) ≡ length kept
 unfolding put_words
-put-size kept n t w =
-    by-test (leb (n + t) (length kept))
-    (λ e. rw (e, length-append, length-append, length-replicate, length-take, length-drop, length-drop) (omega (arith, leb-true (n + t) (length kept) e)))
-    (λ e. rw (e, length-append, length-replicate, length-take) (omega arith))
+put-size kept n t w = grind (arith, common_steps)
 
-stored-size : (kept : List ℕ) (n : ℕ) (x : Words) → length (stored_to kept n x) ≡ length kept
+stored-size : (kept : List ℕ) (n : ℕ) (x : Option Words) → length (stored_to kept n x) ≡ length kept
 unfolding stored_to
-stored-size kept n Words.Wrong = refl
-stored-size kept n (Words.Of t w) = put-size kept n t w
+stored-size kept n None = refl
+stored-size kept n (Some w) = put-size kept n w.times w.word
 
 kept-size : (f : Form) (i : Item) (kept : List ℕ) → length (kept_by f i kept) ≡ length kept
 unfolding kept_by
@@ -58,7 +56,7 @@ kept-size Form.Wrong i kept = refl
 
 taken-size : (f : Form) (i : Item) (kept : List ℕ) → length (taken_words f i kept) ≡ length kept
 unfolding taken_words
-taken-size f i kept = by-test (eqb i.letters 1) (λ e. rw e) (λ e. rw e (kept-size f i kept))
+taken-size f i kept = grind (arith, common_steps, kept-size)
 
 -- ---- a line without a CR at its end
 
@@ -75,12 +73,9 @@ item-taken f [] kept items = refl
 item-taken f (b ∷ bytes) kept items = rw (some-letters b bytes)
 
 read-items : (bytes : List ℕ) (f : Form) (begun : List ℕ) (kept : List ℕ) → read_all f (item_of begun) kept bytes ≡ ordered f kept (items_from begun bytes)
-unfolding read_all ordered items_from item_over separates_items
+unfolding read_all ordered items_from item_over
 read-items [] f begun kept = item-taken f begun kept []
-read-items (b ∷ bytes) f begun kept =
-    by-test (eqb b 32 || eqb b 9)
-    (λ e. rw e (read-items bytes (taken_form f (item_of begun) 16384) [] (taken_words f (item_of begun) kept) ∙ item-taken f begun kept (items_from [] bytes)))
-    (λ e. rw (e, ← item-snoc no_item begun b) (read-items bytes f (begun ++ (b ∷ [])) kept))
+read-items (b ∷ bytes) f begun kept = grind (arith, common_steps, item-snoc no_item begun b, item-taken f begun kept (items_from [] bytes), read-items bytes)
 
 -- ---- the first item of bytes is bytes
 
@@ -95,15 +90,12 @@ before-begins (b ∷ bytes) items p q = p
 begins : (bytes begun : List ℕ) → Bytes bytes → Bytes begun → Begins (items_from begun bytes)
 unfolding items_from
 begins [] begun p q = before-begins begun [] q tt
-begins (b ∷ bytes) begun p q =
-    by-test (eqb b 32 || eqb b 9)
-    (λ e. rw e (before-begins begun (items_from [] bytes) q (begins bytes [] p.1 tt)))
-    (λ e. rw e (begins bytes (begun ++ (b ∷ [])) p.1 (more_bytes begun b q p.0)))
+begins (b ∷ bytes) begun p q = grind (arith, common_steps, before-begins, begins bytes, more_bytes)
 
 without-bytes : (bytes : List ℕ) → Bytes bytes → Bytes (without_cr bytes)
 unfolding without_cr
 without-bytes [] p = tt
-without-bytes (b ∷ []) p = by-test (eqb b 13) (λ e. rw e tt) (λ e. rw e p)
+without-bytes (b ∷ []) p = grind (arith, common_steps)
 without-bytes (b ∷ c ∷ bytes) p = (p.0, without-bytes (c ∷ bytes) p.1)
 
 -- ---- a CR is held back
@@ -113,23 +105,14 @@ Reads bytes plain = (f : Form) (i : Item) (kept : List ℕ) → length kept ≡ 
 
 -- any other byte goes through
 other_byte : (b : ℕ) (bytes plain : List ℕ) → eqb b 13 ≡ false → Reads bytes plain → Reads (b ∷ bytes) (b ∷ plain)
-unfolding read_from read_all fed_line fed_words read_on read_words
-other_byte b bytes plain other go f i kept size =
-    by-test (separates_items b)
-    (λ e. rw (other, e, size) (go (taken_form f i 16384) no_item (taken_words f i kept) (taken-size f i kept ∙ size)))
-    (λ e. rw (other, e) (go f (next_item i b) kept size))
+unfolding read_from read_all fed_line fed_words
+other_byte b bytes plain other go f i kept size = grind (arith, common_steps, go, taken-size)
 
 without-cr : (bytes : List ℕ) → Reads bytes (without_cr bytes)
-unfolding read_from read_all fed_line fed_words read_on read_words ended_order ended_words without_cr separates_items
+unfolding read_from read_all fed_line fed_words ended_order ended_words without_cr
 without-cr [] f i kept size = rw size
-without-cr (b ∷ []) f i kept size =
-    by-test (eqb b 13)
-    (λ e. rw (e, size))
-    (λ e. other_byte b [] [] e (without-cr []) f i kept size ∙ rw e)
-without-cr (b ∷ c ∷ bytes) f i kept size =
-    by-test (eqb b 13)
-    (λ e. rw (eqb-true b 13 e) (without-cr (c ∷ bytes) f (next_item i 13) kept size))
-    (λ e. other_byte b (c ∷ bytes) (without_cr (c ∷ bytes)) e (without-cr (c ∷ bytes)) f i kept size)
+without-cr (b ∷ []) f i kept size = grind (arith, common_steps, (λ (e : eqb b 13 ≡ false). other_byte b [] [] e (without-cr []) f i kept size))
+without-cr (b ∷ c ∷ bytes) f i kept size = grind (arith, common_steps, eqb-true b 13, without-cr (c ∷ bytes) f (next_item i 13) kept size, (λ (e : eqb b 13 ≡ false). other_byte b (c ∷ bytes) (without_cr (c ∷ bytes)) e (without-cr (c ∷ bytes)) f i kept size))
 
 -- ---- the whole: what the reader gives for a line's bytes is what they mean
 
@@ -143,13 +126,8 @@ reads-meaning words bytes size p =
 
 -- a byte, or the end of a line, leaves as many words lent
 pub fed-size : (l : Line) (b : ℕ) (words : List ℕ) → length (fed_words l b words) ≡ length words
-unfolding fed_words read_words
-fed-size l b words =
-    by-test (eqb b 13)
-    (λ e. rw e)
-    (λ e. by-test (separates_items b)
-    (λ f. rw (e, f) (taken-size l.form (released l) words))
-    (λ f. rw (e, f)))
+unfolding fed_words
+fed-size l b words = grind (arith, common_steps, taken-size)
 
 pub ended-size : (l : Line) (words : List ℕ) → length (ended_words l words) ≡ length words
 unfolding ended_words
@@ -158,4 +136,4 @@ ended-size l words = taken-size l.form l.item words
 -- and the order of a line that ends asks for no more than there is
 pub ended-within : (l : Line) (room : ℕ) → Within (ended_order l room) room
 unfolding ended_order
-ended-within l room = order-within _ room
+ended-within l room = order_within _ room

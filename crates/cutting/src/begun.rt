@@ -3,97 +3,91 @@ ghost use Rattle.std.specs.Prelude.{◌≡◌};
 ghost use Rattle.plain.specs.Cut.{if_begun, begun_block, program_begun, begun_inside, begun_program, word_of};
 
 use geometry::Part;
-use plain::{BegunProgram, Inside, Operation, Place, Program, Spot, figures};
+use plain::{Inside, Operation, Program, Recovery, Spot, SuspendedErase, Written, figures};
 
 // The block and the word that a cut would change.
 #[derive(Clone, Copy)]
 pub struct Exposed {
-    pub block: Place,
-    pub word: Spot,
+    pub block: Option<usize>,
+    pub word: Option<Spot>,
 }
 
 // The block whose erase has begun.
-pub fn begun_block(part: Part, operation: Operation) -> Place
+#[tactic(auto, unfolding(plain::specs::Cut::begun_block))]
+pub fn begun_block(part: Part, operation: Operation) -> Option<usize>
     ensures { result ≡ begun_block part operation }
 {
     match operation {
-        Operation::Idle => Place::Nowhere,
-        Operation::Programming(_) => Place::Nowhere,
-        Operation::ProgramSuspended(_) => Place::Nowhere,
-        Operation::Window(_) => Place::Nowhere,
+        Operation::Idle
+        | Operation::Programming(_)
+        | Operation::ProgramSuspended(_)
+        | Operation::Window(_)
+        | Operation::InOneTime
+        | Operation::OneTimeProgramming(_) => None,
         Operation::Erasing(erase) => if_begun(erase.left, figures::erase_time(part), erase.hand),
-        Operation::Recovering(recovery) => {
-            let erase = recovery.erase;
-            if_begun(erase.left, figures::erase_time(part), erase.hand)
-        }
-        Operation::EraseSuspended(suspended) => {
-            let erase = suspended.erase;
+        Operation::Recovering(Recovery { erase, .. })
+        | Operation::EraseSuspended(SuspendedErase { erase, .. }) => {
             if_begun(erase.left, figures::erase_time(part), erase.hand)
         }
         Operation::ChipErasing(erase) => if_begun(erase.left, figures::chip_time(part), erase.hand),
-        Operation::InOneTime => Place::Nowhere,
-        Operation::OneTimeProgramming(_) => Place::Nowhere,
     }
 }
 
-fn if_begun(left: u64, full: u64, block: usize) -> Place
+fn if_begun(left: u64, full: u64, block: usize) -> Option<usize>
     ensures { result ≡ if_begun left full block }
 {
     if left < full {
-        return Place::At(block);
+        return Some(block);
     }
-    Place::Nowhere
+    None
 }
 
 // What the program writes that has begun.
-pub fn begun_program(part: Part, operation: Operation) -> BegunProgram
+#[tactic(auto, unfolding(plain::specs::Cut::begun_program))]
+pub fn begun_program(part: Part, operation: Operation) -> Option<Written>
     ensures { result ≡ begun_program part operation }
 {
     match operation {
-        Operation::Idle => BegunProgram::NoProgram,
-        Operation::Programming(program) => program_begun(part, program),
-        Operation::ProgramSuspended(program) => program_begun(part, program),
-        Operation::Window(_) => BegunProgram::NoProgram,
-        Operation::Erasing(_) => BegunProgram::NoProgram,
-        Operation::Recovering(_) => BegunProgram::NoProgram,
-        Operation::EraseSuspended(suspended) => {
-            let inside = suspended.inside;
-            begun_inside(part, inside)
-        }
-        Operation::ChipErasing(_) => BegunProgram::NoProgram,
-        Operation::InOneTime => BegunProgram::NoProgram,
-        Operation::OneTimeProgramming(program) => program_begun(part, program),
+        Operation::Programming(program)
+        | Operation::ProgramSuspended(program)
+        | Operation::OneTimeProgramming(program) => program_begun(part, program),
+        Operation::EraseSuspended(suspended) => begun_inside(part, suspended.inside),
+        Operation::Idle
+        | Operation::Window(_)
+        | Operation::Erasing(_)
+        | Operation::Recovering(_)
+        | Operation::ChipErasing(_)
+        | Operation::InOneTime => None,
     }
 }
 
-fn begun_inside(part: Part, inside: Inside) -> BegunProgram
+#[tactic(auto, unfolding(plain::specs::Cut::begun_inside))]
+fn begun_inside(part: Part, inside: Inside) -> Option<Written>
     ensures { result ≡ begun_inside part inside }
 {
     match inside {
-        Inside::Nothing => BegunProgram::NoProgram,
+        Inside::Nothing => None,
         Inside::Runs(program) => program_begun(part, program),
     }
 }
 
-fn program_begun(part: Part, program: Program) -> BegunProgram
+fn program_begun(part: Part, program: Program) -> Option<Written>
     ensures { result ≡ program_begun part program }
 {
     if program.left < figures::program_time(part) {
-        let written = program.writes;
-        return BegunProgram::Writes(written);
+        return Some(program.writes);
     }
-    BegunProgram::NoProgram
+    None
 }
 
 // The word that such a program is named by, and its array.
-pub fn word_of(program: BegunProgram) -> Spot
+#[tactic(auto, unfolding(plain::specs::Cut::word_of))]
+pub fn word_of(program: Option<Written>) -> Option<Spot>
     ensures { result ≡ word_of program }
 {
-    match program {
-        BegunProgram::NoProgram => Spot::NoWord,
-        BegunProgram::Writes(written) => Spot::In(
-            programs::array_written(written),
-            programs::first_word(written),
-        ),
-    }
+    let written = program?;
+    Some(Spot {
+        array: programs::array_written(written),
+        at: programs::first_word(written),
+    })
 }

@@ -10,7 +10,7 @@ ghost use Rattle.cutting.specs.Cuttable.{Cuttable};
 ghost use Rattle.cutting.specs.Exposes.{exposed_by};
 
 use geometry::Part;
-use plain::{BegunProgram, Operation, Place};
+use plain::{Operation, Written};
 
 mod begun;
 
@@ -55,22 +55,20 @@ pub fn cut_lent(
 }
 
 // "The block takes the debris as its words."
-fn cut_block(part: Part, block: Place, cells: &mut [u16], debris: &[u16])
+fn cut_block(part: Part, block: Option<usize>, cells: &mut [u16], debris: &[u16])
     requires { (length cells.old ≡ word_count part) × (block_debris part block ≤ length debris.now) }
     ensures { (otp : List ℕ) → lent cells.new otp ≡ block_cut part block debris.now (lent cells.old otp) }
 {
-    match block {
-        Place::Nowhere => {}
-        Place::At(b) => {
-            cells::litter(cells, part.first_of(b), part.size_of(b), debris);
-        }
+    if let Some(b) = block {
+        cells::litter(cells, part.first_of(b), part.size_of(b), debris);
     }
 }
 
 // "The program's word becomes old AND (data OR debris)": the debris starts with its own.
+#[tactic(auto, unfolding(plain::specs::Cut::program_cut, plain::specs::Cut::program_debris))]
 fn cut_program(
     part: Part,
-    program: BegunProgram,
+    program: Option<Written>,
     cells: &mut [u16],
     otp: &mut [u16],
     debris: &[u16],
@@ -80,28 +78,27 @@ fn cut_program(
     ensures cells_after { cells.new ≡ (program_cut program debris.now (lent cells.old otp.old)).cells }
     ensures otp_after { otp.new ≡ (program_cut program debris.now (lent cells.old otp.old)).otp }
 {
-    match program {
-        BegunProgram::NoProgram => {}
-        BegunProgram::Writes(written) => {
-            programs::cut_off(part, written, cells, otp, debris);
-        }
+    if let Some(written) = program {
+        programs::cut_off(part, written, cells, otp, debris);
     }
 }
 
-fn block_debris(part: Part, block: Place) -> usize
+#[tactic(auto, unfolding(plain::specs::Cut::block_debris))]
+fn block_debris(part: Part, block: Option<usize>) -> usize
     ensures { result ≡ block_debris part block }
 {
     match block {
-        Place::Nowhere => 0,
-        Place::At(b) => part.size_of(b),
+        None => 0,
+        Some(b) => part.size_of(b),
     }
 }
 
-fn program_debris(program: BegunProgram) -> usize
+#[tactic(auto, unfolding(plain::specs::Cut::program_debris))]
+fn program_debris(program: Option<Written>) -> usize
     ensures { result ≡ program_debris program }
 {
     match program {
-        BegunProgram::NoProgram => 0,
-        BegunProgram::Writes(written) => programs::debris_words(written),
+        None => 0,
+        Some(written) => programs::debris_words(written),
     }
 }

@@ -14,10 +14,7 @@ use plain::{Command, Effect, Operation, Refusal, Suspension};
 pub fn is_cycle(address: usize, word: u16, at: usize, code: u16) -> bool
     ensures { result ≡ (is_at address at && is word code) }
 {
-    if address % 2048 != at {
-        return false;
-    }
-    word % 256 == code
+    address % 2048 == at && word % 256 == code
 }
 
 pub fn is_first_unlock(address: usize, word: u16) -> bool
@@ -36,20 +33,18 @@ pub fn is_second_unlock(address: usize, word: u16) -> bool
 pub fn at_lock(suspension: Suspension, address: usize) -> bool
     ensures { result ≡ at_lock suspension address }
 {
-    if is_entered(suspension) {
-        return address % 256 == 0x1a;
-    }
-    false
+    is_entered(suspension) && address % 256 == 0x1a
 }
 
 // "F0H returns to ground"; document 02, request 4: "A cut or reset exits".
+#[tactic(auto, unfolding(plain::specs::Commands::resets))]
 pub fn resets(suspension: Suspension) -> Effect
     ensures { result ≡ resets suspension }
 {
     match suspension {
-        Suspension::Unsuspended => Effect::Goes(Command::Ground),
-        Suspension::OfProgram(_) => Effect::Goes(Command::Ground),
-        Suspension::OfErase(_) => Effect::Goes(Command::Ground),
+        Suspension::Unsuspended | Suspension::OfProgram(_) | Suspension::OfErase(_) => {
+            Effect::Goes(Command::Ground)
+        }
         Suspension::Entered => Effect::Starts(Operation::Idle),
     }
 }

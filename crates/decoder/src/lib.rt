@@ -16,8 +16,10 @@ mod readings;
 mod unlocks;
 
 use readings::after_reading;
-use unlocks::{after_80, after_80_unlock, after_unlock, at_ground};
+use unlocks::{at_ground, first_unlock, second_unlock};
 
+// All that a command may go by is passed singly, as specs/Commands takes it: so each command's own function shows what it hangs on.
+#[tactic(auto, unfolding(plain::specs::Commands::entered))]
 pub fn entered(
     part: Part,
     bits: Protection,
@@ -40,7 +42,7 @@ pub fn entered(
 }
 
 // The next write of a command that is half entered.
-#[tactic(auto, unfolding(plain::specs::Commands::continued))]
+#[tactic(auto, unfolding(plain::specs::Commands::continued, plain::specs::Commands::after_unlock, plain::specs::Commands::after80, plain::specs::Commands::after_80_unlock))]
 fn continued(
     part: Part,
     bits: Protection,
@@ -54,11 +56,11 @@ fn continued(
     ensures { result ≡ continued part bits suspension cycle (lent cells.now otp.now) address word }
 {
     match cycle {
-        Cycle::Unlock => after_unlock(suspension, address, word),
+        Cycle::Unlock => second_unlock(suspension, address, word, Cycle::Unlocked),
         Cycle::Unlocked => after_unlocked(part, bits, suspension, address, word),
         Cycle::ProgramData => after_a0(part, bits, suspension, cells, otp, address, word),
-        Cycle::EraseSetup => after_80(suspension, address, word),
-        Cycle::EraseUnlock => after_80_unlock(suspension, address, word),
+        Cycle::EraseSetup => first_unlock(suspension, address, word, Cycle::EraseUnlock),
+        Cycle::EraseUnlock => second_unlock(suspension, address, word, Cycle::EraseUnlocked),
         Cycle::EraseUnlocked => after_80_unlocked(part, bits, suspension, address, word),
         Cycle::DybData => after_48(part, bits, address, word),
         Cycle::PpbSetup => after_60(part, suspension, address, word),

@@ -9,13 +9,7 @@ ghost use Rattle.elapsed.specs.Lapses.{lapsed, cut_by};
 
 use geometry::Part;
 use moments::Moved;
-use plain::{Device, Entry, Refusal, figures};
-
-#[derive(Clone, Copy)]
-pub enum Lapse {
-    Refused(Refusal),
-    Passed(Moved),
-}
+use plain::{Device, Refusal, figures};
 
 pub fn wait(
     part: Part,
@@ -23,16 +17,13 @@ pub fn wait(
     cells: &mut [u16],
     otp: &mut [u16],
     microseconds: u64,
-) -> Lapse
+) -> Result<Moved, Refusal>
     ensures result_value { lapsed device result ≡ (wait_event part device (lent cells.old otp.old) microseconds).answer }
     ensures cells_after { cells.new ≡ (wait_event part device (lent cells.old otp.old) microseconds).lent.cells }
     ensures otp_after { otp.new ≡ (wait_event part device (lent cells.old otp.old) microseconds).lent.otp }
 {
-    let entry = judged::entry(part, soundness::is_sound(part, device), cells, otp);
-    match entry {
-        Entry::Barred(refusal) => Lapse::Refused(refusal),
-        Entry::Admitted => admitted_wait(part, device, cells, otp, microseconds),
-    }
+    judged::entry(part, soundness::is_sound(part, device), cells, otp)?;
+    admitted_wait(part, device, cells, otp, microseconds)
 }
 
 // Once the record is sound and what is lent is whole.
@@ -42,7 +33,7 @@ fn admitted_wait(
     cells: &mut [u16],
     otp: &mut [u16],
     microseconds: u64,
-) -> Lapse
+) -> Result<Moved, Refusal>
     requires { Fit part device (lent cells.old otp.old) }
     ensures result_value { lapsed device result ≡ (wait_event part device (lent cells.old otp.old) microseconds).answer }
     ensures cells_after { cells.new ≡ (wait_event part device (lent cells.old otp.old) microseconds).lent.cells }
@@ -51,22 +42,24 @@ fn admitted_wait(
     let meter = device.meter;
     // The clock is at most its limit, so the difference is there; the sum might not be.
     if figures::clock_limit(part) - meter.clock < microseconds {
-        return Lapse::Refused(Refusal::Clock);
+        return Err(Refusal::Clock);
     }
-    let operation = device.operation;
-    Lapse::Passed(waiting::pass(part, meter, operation, cells, otp, microseconds))
+    Ok(waiting::pass(part, meter, device.operation, cells, otp, microseconds))
 }
 
-pub fn cut(part: Part, device: Device, cells: &mut [u16], otp: &mut [u16], debris: &[u16]) -> Entry
+pub fn cut(
+    part: Part,
+    device: Device,
+    cells: &mut [u16],
+    otp: &mut [u16],
+    debris: &[u16],
+) -> Result<(), Refusal>
     ensures result_value { cut_by device result ≡ (cut_event part device (lent cells.old otp.old) debris.now).answer }
     ensures cells_after { cells.new ≡ (cut_event part device (lent cells.old otp.old) debris.now).lent.cells }
     ensures otp_after { otp.new ≡ (cut_event part device (lent cells.old otp.old) debris.now).lent.otp }
 {
-    let entry = judged::entry(part, soundness::is_sound(part, device), cells, otp);
-    match entry {
-        Entry::Barred(refusal) => Entry::Barred(refusal),
-        Entry::Admitted => admitted_cut(part, device, cells, otp, debris),
-    }
+    judged::entry(part, soundness::is_sound(part, device), cells, otp)?;
+    admitted_cut(part, device, cells, otp, debris)
 }
 
 fn admitted_cut(
@@ -75,7 +68,7 @@ fn admitted_cut(
     cells: &mut [u16],
     otp: &mut [u16],
     debris: &[u16],
-) -> Entry
+) -> Result<(), Refusal>
     requires { Fit part device (lent cells.old otp.old) }
     ensures result_value { cut_by device result ≡ (cut_event part device (lent cells.old otp.old) debris.now).answer }
     ensures cells_after { cells.new ≡ (cut_event part device (lent cells.old otp.old) debris.now).lent.cells }
@@ -83,8 +76,8 @@ fn admitted_cut(
 {
     let operation = device.operation;
     if debris.len() < cutting::debris_needed(part, operation) {
-        return Entry::Barred(Refusal::Debris);
+        return Err(Refusal::Debris);
     }
     cutting::cut_lent(part, operation, cells, otp, debris);
-    Entry::Admitted
+    Ok(())
 }

@@ -12,19 +12,19 @@ pub fn k5l_sound(part: u64, words: &[u64]) -> bool
 pub fn k5l_exposed_block(part: u64, words: &[u64]) -> u64
     ensures { result ≡ face_exposed_block part words.now }
 {
-    asked::exposed_block(part, words)
+    calls::number_or_none(asked::exposed_block(part, words))
 }
 
 pub fn k5l_exposed_word(part: u64, words: &[u64]) -> u64
     ensures { result ≡ face_exposed_word part words.now }
 {
-    asked::exposed_word(part, words)
+    calls::number_or_none(asked::exposed_word(part, words))
 }
 
 pub fn k5l_exposed_array(part: u64, words: &[u64]) -> u64
     ensures { result ≡ face_exposed_array part words.now }
 {
-    asked::exposed_array(part, words)
+    calls::number_or_none(asked::exposed_array(part, words))
 }
 
 pub fn k5l_reads_cells(part: u64, words: &[u64], bank: usize) -> bool
@@ -36,13 +36,13 @@ pub fn k5l_reads_cells(part: u64, words: &[u64], bank: usize) -> bool
 pub fn k5l_clock(part: u64, words: &[u64]) -> u64
     ensures { result ≡ face_clock part words.now }
 {
-    asked::clock(part, words)
+    calls::number_or_none(asked::clock(part, words))
 }
 
 pub fn k5l_charge(part: u64, words: &[u64]) -> u64
     ensures { result ≡ face_charge part words.now }
 {
-    asked::charge(part, words)
+    calls::number_or_none(asked::charge(part, words))
 }
 
 pub fn k5l_first_word(part: u64, block: usize) -> usize

@@ -15,14 +15,14 @@ pub fn k5l_fresh(words: &mut [u64]) -> u64
     ensures value { result ≡ fresh_refusal words.old }
     ensures words_after { words.new ≡ fresh_image words.old }
 {
-    idling::fresh::make(words)
+    calls::number(idling::fresh::make(words))
 }
 
 pub fn k5l_carry(stored: &[u64], words: &mut [u64]) -> u64
     ensures value { result ≡ carried_refusal stored.now words.old }
     ensures words_after { words.new ≡ carried_image stored.now words.old }
 {
-    carrying::carry(stored, words)
+    calls::number(carrying::carry(stored, words))
 }
 
 pub fn k5l_read(part: u64, words: &mut [u64], cells: &[u16], otp: &[u16], address: usize) -> u64
@@ -30,12 +30,12 @@ pub fn k5l_read(part: u64, words: &mut [u64], cells: &[u16], otp: &[u16], addres
     ensures words_after { words.new ≡ (face_read part words.old cells.now otp.now address).image }
 {
     if !calls::is_part(part) {
-        return bus::read(part, words, cells, otp, address);
+        return calls::word_or_refusal(bus::read(part, words, cells, otp, address));
     }
     if shape::is_idle(words) {
-        return idling::read(part, words, cells, otp, address);
+        return calls::word_or_refusal(idling::read(part, words, cells, otp, address));
     }
-    bus::read(part, words, cells, otp, address)
+    calls::word_or_refusal(bus::read(part, words, cells, otp, address))
 }
 
 pub fn k5l_write(
@@ -50,12 +50,12 @@ pub fn k5l_write(
     ensures words_after { words.new ≡ (face_write part words.old cells.now otp.now address word).image }
 {
     if !calls::is_part(part) {
-        return bus::write(part, words, cells, otp, address, word);
+        return calls::number(bus::write(part, words, cells, otp, address, word));
     }
     if shape::is_idle(words) {
-        return idling::write(part, words, cells, otp, address, word);
+        return calls::number(idling::write(part, words, cells, otp, address, word));
     }
-    bus::write(part, words, cells, otp, address, word)
+    calls::number(bus::write(part, words, cells, otp, address, word))
 }
 
 pub fn k5l_wait(
@@ -71,12 +71,12 @@ pub fn k5l_wait(
     ensures otp_after { otp.new ≡ (face_wait part words.old cells.old otp.old microseconds).otp }
 {
     if !calls::is_part(part) {
-        return lapses::wait(part, words, cells, otp, microseconds);
+        return calls::number(lapses::wait(part, words, cells, otp, microseconds));
     }
     if shape::is_idle(words) {
-        return idling::wait(part, words, cells, otp, microseconds);
+        return calls::number(idling::wait(part, words, cells, otp, microseconds));
     }
-    lapses::wait(part, words, cells, otp, microseconds)
+    calls::number(lapses::wait(part, words, cells, otp, microseconds))
 }
 
 pub fn k5l_cut(
@@ -91,7 +91,7 @@ pub fn k5l_cut(
     ensures cells_after { cells.new ≡ (face_cut part words.old cells.old otp.old debris.now).cells }
     ensures otp_after { otp.new ≡ (face_cut part words.old cells.old otp.old debris.now).otp }
 {
-    lapses::cut(part, words, cells, otp, debris)
+    calls::number(lapses::cut(part, words, cells, otp, debris))
 }
 
 // An idle device has no range to hand back, so it is asked as any other.

@@ -1,4 +1,5 @@
-// The C face (include/k5l2931cam.h): each function of `emulator`, under its name for C and with its contract.
+// The C face (include/k5l2931cam.h): each function of `emulator`, under its name for C and with its contract. A crate is a
+// library, of which statements speak, or a static library, which C links, and not both.
 #![tactic(auto)]
 
 ghost use Rattle.std.specs.Prelude.{◌≡◌};

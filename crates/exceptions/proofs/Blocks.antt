@@ -8,9 +8,9 @@ use lib.Dec.{ltb}
 use Rattle.geometry.specs.declared.Part.TheVariants.{Small}
 use Rattle.geometry.specs.Parts.{unit_of, first_of, size_of, first_in, size_in}
 
-pub block-end : (b : ℕ) → (0 < first_of Small b + size_of Small b) × (first_of Small b + size_of Small b ≤ 16384)
+pub block_end : (b : ℕ) → (0 < first_of Small b + size_of Small b) × (first_of Small b + size_of Small b ≤ 16384)
 unfolding unit_of first_in size_in
-block-end b = by (ltb b 8) (ltb b 262) (ltb b 270) refl refl refl
+block_end b = by (ltb b 8) (ltb b 262) (ltb b 270) refl refl refl
   where
     by : (x y z : Bool) → ltb b 8 ≡ x → ltb b 262 ≡ y → ltb b 270 ≡ z
         → (0 < 8 * cond x b (cond y (8 * (b - 7)) (cond z (2040 + (b - 262)) 2048)) + 8 * cond x 1 (cond y 8 (cond z 1 0)))

@@ -1,4 +1,5 @@
 -- What the face answers, once it is known whether the words stand for a record, and whether the event is admitted.
+use Rattle.std.specs.Prelude.{Ok, Err}
 use Prim.Native.Nat.{ℕ}
 use mathlib.Core.Path.{◌≡◌, sym, ap, ◌∙◌}
 use mathlib.Core.Bool.{true, false}
@@ -8,7 +9,6 @@ use lib.ListN.{length}
 use Rattle.plain.specs.declared.Refusal.{Refusal}
 use Rattle.plain.specs.declared.Refusal.TheVariants.{State}
 use Rattle.plain.specs.declared.Answer.{Answer}
-use Rattle.plain.specs.declared.Entry.TheVariants.{Admitted, Barred}
 use Rattle.plain.specs.Lent.{lent}
 use Rattle.plain.specs.Refusals.{number}
 use Rattle.plain.specs.Machine.{Outcome, Fit, refused, entry, read_event, write_event, wait_event, cut_event}
@@ -43,15 +43,15 @@ module _ (part : ℕ) (i : List ℕ) where
   unfolding stands_sound
   unsound-none s = rw s
 
-  pub sound-whole : stands_sound part i ≡ true → length i ≡ record_words
-  sound-whole h = by_cases (stands part i) whole (λ s. clash h (unsound-none s))
+  pub sound_whole : stands_sound part i ≡ true → length i ≡ record_words
+  sound_whole h = by_cases (stands part i) whole (λ s. clash h (unsound-none s))
 
   -- words that stand for a record are left as they were by an answer that leaves the record
   pub kept : (n w : ℕ) (cells otp : List ℕ) → stands part i ≡ true → answered n w (image_of (device_of i)) cells otp ≡ answered n w i cells otp
   kept n w cells otp s = ap (λ (z : List ℕ). answered n w z cells otp) (canonical i (well s))
 
   module _ (cells otp : List ℕ) where
-    pub entry-none : stands part i ≡ false → face_entry part i cells otp ≡ Barred State
+    pub entry-none : stands part i ≡ false → face_entry part i cells otp ≡ Err State
     unfolding face_entry
     entry-none s = rw s
 
@@ -59,18 +59,18 @@ module _ (part : ℕ) (i : List ℕ) where
     unfolding face_entry
     entry-some s = rw s
 
-    pub enters : face_entry part i cells otp ≡ Admitted → Enters part i cells otp
+    pub enters : face_entry part i cells otp ≡ (Ok tt) → Enters part i cells otp
     enters e =
         by_cases (stands part i)
         (λ s. record { stands = s; fit = admitted (part_named part) (device_of i) (lent cells otp) (sym (entry-some s) ∙ e) })
-        (λ s. let t : Barred State ≡ Admitted = sym (entry-none s) ∙ e in let z : ◌≡◌ {A = ℕ} 0 1 = cc in absurd (omega arith))
+        (λ s. let t : Err State ≡ (Ok tt) = sym (entry-none s) ∙ e in let z : ◌≡◌ {A = ℕ} 0 1 = cc in absurd (omega arith))
 
     -- what is barred is answered by the refusal, and nothing changes
-    barred : (n : Refusal) → (f : Faced) (o : Outcome) → face_entry part i cells otp ≡ Barred n → (stands part i ≡ false → f ≡ state i cells otp) → (stands part i ≡ true → f ≡ shown o)
-        → (entry (part_named part) (device_of i) (lent cells otp) ≡ Barred n → o ≡ refused n (device_of i) (lent cells otp)) → f ≡ answered (number n) 0 i cells otp
+    barred : (n : Refusal) → (f : Faced) (o : Outcome) → face_entry part i cells otp ≡ Err n → (stands part i ≡ false → f ≡ state i cells otp) → (stands part i ≡ true → f ≡ shown o)
+        → (entry (part_named part) (device_of i) (lent cells otp) ≡ Err n → o ≡ refused n (device_of i) (lent cells otp)) → f ≡ answered (number n) 0 i cells otp
     barred n f o e none some law =
         by_cases (stands part i) (λ s. some s ∙ (ap shown (law (sym (entry-some s) ∙ e)) ∙ kept (number n) 0 cells otp s))
-        (λ s. let t : Barred State ≡ Barred n = sym (entry-none s) ∙ e in let same : State ≡ n = cc in none s ∙ ap (λ (x : Refusal). answered (number x) 0 i cells otp) same)
+        (λ s. let t : Err State ≡ Err n = sym (entry-none s) ∙ e in let same : State ≡ n = cc in none s ∙ ap (λ (x : Refusal). answered (number x) 0 i cells otp) same)
 
     module _ (a : ℕ) where
       pub read_none : stands part i ≡ false → face_read part i cells otp a ≡ state i cells otp
@@ -81,7 +81,7 @@ module _ (part : ℕ) (i : List ℕ) where
       unfolding face_read
       read_some s = rw s
 
-      pub read-barred : (n : Refusal) → face_entry part i cells otp ≡ Barred n → face_read part i cells otp a ≡ answered (number n) 0 i cells otp
+      pub read-barred : (n : Refusal) → face_entry part i cells otp ≡ Err n → face_read part i cells otp a ≡ answered (number n) 0 i cells otp
       read-barred n e = barred n _ _ e read_none read_some (events.read-barred (part_named part) (device_of i) (lent cells otp) a n)
 
       module _ (w : ℕ) where
@@ -93,7 +93,7 @@ module _ (part : ℕ) (i : List ℕ) where
         unfolding face_write
         write-some s = rw s
 
-        pub write-barred : (n : Refusal) → face_entry part i cells otp ≡ Barred n → face_write part i cells otp a w ≡ answered (number n) 0 i cells otp
+        pub write-barred : (n : Refusal) → face_entry part i cells otp ≡ Err n → face_write part i cells otp a w ≡ answered (number n) 0 i cells otp
         write-barred n e = barred n _ _ e write-none write-some (events.write-barred (part_named part) (device_of i) (lent cells otp) a w n)
 
     module _ (n : ℕ) where
@@ -105,7 +105,7 @@ module _ (part : ℕ) (i : List ℕ) where
       unfolding face_wait
       wait-some s = rw s
 
-      pub wait-barred : (x : Refusal) → face_entry part i cells otp ≡ Barred x → face_wait part i cells otp n ≡ answered (number x) 0 i cells otp
+      pub wait-barred : (x : Refusal) → face_entry part i cells otp ≡ Err x → face_wait part i cells otp n ≡ answered (number x) 0 i cells otp
       wait-barred x e = barred x _ _ e wait-none wait-some (events.wait-barred (part_named part) (device_of i) (lent cells otp) n x)
 
     module _ (debris : List ℕ) where

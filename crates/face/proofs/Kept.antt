@@ -16,7 +16,7 @@ use Rattle.plain.specs.Machine.{Outcome, read_taken, read_event}
 use Rattle.plain.proofs.Ladder.{by-ladder}
 use Rattle.layout.specs.Image.{image_of, well_formed, device_of}
 use Rattle.layout.specs.Stored.{with_toggles}
-use Rattle.layout.proofs.Stored.{stored-toggles}
+use Rattle.layout.proofs.Stored.{stored_toggles}
 use Rattle.layout.proofs.Toggles.{Retoggled, same, look-flips}
 
 module _ (p : Part) (r : Device) (l : Lent) where
@@ -31,4 +31,4 @@ pub read-stored : (p : Part) (i : List ℕ) (l : Lent) (a w : ℕ) (o : Operatio
     → answer Done w (device (device_of i).meter (device_of i).command o (device_of i).bits) ≡ (read_event p (device_of i) l a).answer
     → with_toggles i o ≡ image_of (device (device_of i).meter (device_of i).command o (device_of i).bits)
 read-stored p i l a w o well e =
-    stored-toggles i well o (rw (ap (λ (y : Answer). y.device.operation) e) (read-flips p (device_of i) l a))
+    stored_toggles i well o (rw (ap (λ (y : Answer). y.device.operation) e) (read-flips p (device_of i) l a))

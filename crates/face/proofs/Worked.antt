@@ -1,4 +1,5 @@
 -- The definitions and the answers written out agree: each by computing.
+use Rattle.std.specs.Prelude.{None, Some}
 use Prim.Native.Nat.{ℕ}
 use mathlib.Core.Path.{◌≡◌, refl}
 use mathlib.Core.List.{List, [], ◌∷◌, map}
@@ -9,10 +10,8 @@ use Rattle.geometry.specs.declared.Part.TheVariants.{Small, Full}
 use Rattle.geometry.specs.Parts.{block_count, unit_of, size_in, first_in}
 use Rattle.protection.specs.Protection.{word_locked_by}
 use Rattle.plain.specs.declared.Array.TheVariants.{Main, OneTime}
-use Rattle.plain.specs.declared.Place.TheVariants.{Nowhere, At}
-use Rattle.plain.specs.declared.Spot.TheVariants.{NoWord, In}
 use Rattle.plain.specs.Commands.{is_suspended, at_ground, after_unlocked, after_lock_68, continued, entered as cycled, in_suspended_erase, written, effected}
-use Rattle.plain.specs.Cut.{begun_block, begun_inside, begun_program, block_debris, program_debris, debris_needed, block_cut, program_cut, cut_lent}
+use Rattle.plain.specs.Cut.{begun_block, begun_inside, begun_program, block_debris, program_debris, debris_needed, block_cut, program_cut, cut_lent, spot}
 use Rattle.plain.specs.Figures.{running_current, program_time, clock_limit}
 use Rattle.plain.specs.Machine.{entry, climbed, ladder, read_event, write_event, wait_event, cut_event, range_event, range_words}
 use Rattle.plain.specs.Operations.{running_inside, running_of, suspension_of}
@@ -86,15 +85,15 @@ pub no_room : carried_refusal (idle_before₁ 2 34000) (replicate 30 9) ≡ 1
 unfolding number carriable
 no_room = refl
 
-pub places : map place_number (At 0 ∷ At 269 ∷ Nowhere ∷ []) ≡ 0 ∷ 269 ∷ no_number ∷ []
+pub places : map place_number (Some 0 ∷ Some 269 ∷ None ∷ []) ≡ 0 ∷ 269 ∷ no_number ∷ []
 unfolding place_number
 places = refl
 
-pub spots : map spot_number (In Main 0 ∷ In OneTime 255 ∷ NoWord ∷ []) ≡ 0 ∷ 255 ∷ no_number ∷ []
+pub spots : map spot_number (Some (spot Main 0) ∷ Some (spot OneTime 255) ∷ None ∷ []) ≡ 0 ∷ 255 ∷ no_number ∷ []
 unfolding spot_number
 spots = refl
 
-pub spot-arrays : map spot_array (In Main 0 ∷ In OneTime 255 ∷ NoWord ∷ []) ≡ 0 ∷ 1 ∷ no_number ∷ []
+pub spot-arrays : map spot_array (Some (spot Main 0) ∷ Some (spot OneTime 255) ∷ None ∷ []) ≡ 0 ∷ 1 ∷ no_number ∷ []
 unfolding spot_array
 spot-arrays = refl
 

@@ -1,15 +1,14 @@
 -- What a C program is answered, over a record that it holds as words, and cells and one-time words that it lends
 -- (include/k5l2931cam.h).
+use Rattle.std.specs.Prelude.{Option, None, Some, Result, Ok, Err}
 use Rattle.std.specs.Prelude.{ℕ, ◌+◌, ◌*◌, Bool, ◌&&◌, List, eqb, ltb, length}
 use Rattle.geometry.specs.declared.Part.{Part}
 use Rattle.geometry.specs.declared.Part.TheVariants.{Small, Full}
 use Rattle.geometry.specs.Parts.{first_of, size_of}
 use Rattle.plain.specs.declared.Array.{Array}
 use Rattle.plain.specs.declared.Array.TheVariants.{Main, OneTime}
-use Rattle.plain.specs.declared.Place.{Place}
-use Rattle.plain.specs.declared.Place.TheVariants.{Nowhere, At}
 use Rattle.plain.specs.declared.Spot.{Spot}
-use Rattle.plain.specs.declared.Spot.TheVariants.{NoWord, In}
+use Rattle.plain.specs.declared.Refusal.{Refusal}
 use Rattle.plain.specs.declared.Refusal.TheVariants.{Done, State}
 use Rattle.plain.specs.declared.Device.{Device}
 use Rattle.std.specs.Prelude.{if◌then◌else◌}
@@ -75,6 +74,15 @@ face_wait part i cells otp n = faced (λ p r l. wait_event p r l n) part i cells
 unfoldable pub face_cut : (part : ℕ) → (image cells otp : List ℕ) → (debris : List ℕ) → Faced
 face_cut part i cells otp debris = faced (λ p r l. cut_event p r l debris) part i cells otp
 
+-- the refusal of a function of Rattle's own, and the word of one that reads: no word is 0
+abbrev pub refusal_of : {X : Type 0} → Result X Refusal → Refusal
+refusal_of (Ok _) = Done
+refusal_of (Err n) = n
+
+abbrev pub word_of : Result ℕ Refusal → ℕ
+word_of (Ok w) = w
+word_of (Err _) = 0
+
 -- a read's answer: "the word in the low 16 bits, the refusal above them"
 abbrev pub packed : Faced → ℕ
 packed f = 65536 * f.refusal + f.word
@@ -106,9 +114,14 @@ carried_image stored i = if may_carry stored i then carried stored else i
 abbrev pub none : ℕ
 none = 18446744073709551615
 
-unfoldable pub place_number : Place → ℕ
-place_number Nowhere = none
-place_number (At n) = n
+-- of what may be none
+abbrev pub number_or_none : Option ℕ → ℕ
+number_or_none None = none
+number_or_none (Some n) = n
+
+unfoldable pub place_number : Option ℕ → ℕ
+place_number None = none
+place_number (Some n) = n
 
 -- the arrays: 0 is the cells, 1 the one-time words
 abbrev pub array_number : Array → ℕ
@@ -116,13 +129,13 @@ array_number Main = 0
 array_number OneTime = 1
 
 -- of a word, its address and its array
-unfoldable pub spot_number : Spot → ℕ
-spot_number NoWord = none
-spot_number (In y a) = a
+unfoldable pub spot_number : Option Spot → ℕ
+spot_number None = none
+spot_number (Some s) = s.at
 
-unfoldable pub spot_array : Spot → ℕ
-spot_array NoWord = none
-spot_array (In y a) = array_number y
+unfoldable pub spot_array : Option Spot → ℕ
+spot_array None = none
+spot_array (Some s) = array_number s.array
 
 unfoldable pub face_clock : (part : ℕ) → List ℕ → ℕ
 face_clock part i = if stands_sound part i then (device_of i).meter.clock else none

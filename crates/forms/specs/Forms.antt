@@ -1,13 +1,11 @@
 -- A line by its items, as the reader keeps it. `room` is how many words the caller lends.
-use Rattle.std.specs.Prelude.{ℕ, ◌+◌, ◌-◌, Bool, List, ◌++◌, eqb, leb, ltb, length, take, drop, replicate}
+use Rattle.std.specs.Prelude.{ℕ, ◌+◌, ◌-◌, Bool, List, ◌++◌, Option, Some, None, eqb, leb, ltb, length, take, drop, replicate}
 use Rattle.std.specs.Prelude.{if◌then◌else◌}
-use Rattle.language.specs.declared.Value.{Value}
 use Rattle.spelling.specs.declared.Item.{Item}
 use Rattle.spelling.specs.declared.Words.{Words}
 use Rattle.forms.specs.declared.Verb.{Verb}
 use Rattle.forms.specs.declared.Target.{Target}
 use Rattle.forms.specs.declared.Form.{Form}
-use Rattle.forms.specs.declared.Count.{Count}
 use Rattle.spelling.specs.Items.{number_of, words_of}
 
 -- how many words there are with `times` more; one more than the room stands for every greater number
@@ -42,34 +40,34 @@ verb_with Verb.Range n = Form.Starts n
 verb_with Verb.Cell n = Form.Sets Target.Cells n 0
 verb_with Verb.Otp n = Form.Sets Target.OneTime n 0
 
-unfoldable pub numbered_by : Verb → Value → Form
-numbered_by verb Value.Absent = Form.Wrong
-numbered_by verb (Value.Of n) = verb_with verb n
+abbrev pub numbered_by : Verb → Option ℕ → Form
+numbered_by verb None = Form.Wrong
+numbered_by verb (Some n) = verb_with verb n
 
 -- "a word at most FFFFH"
-unfoldable pub written_by : (address : ℕ) → Value → Form
-written_by address Value.Absent = Form.Wrong
-written_by address (Value.Of w) = if ltb 0xffff w then Form.Wrong else Form.Writes address w
+abbrev pub written_by : (address : ℕ) → Option ℕ → Form
+written_by address None = Form.Wrong
+written_by address (Some w) = if ltb 0xffff w then Form.Wrong else Form.Writes address w
 
-unfoldable pub ranged_by : (first : ℕ) → Value → Form
-ranged_by first Value.Absent = Form.Wrong
-ranged_by first (Value.Of n) = Form.Ranges first n
+abbrev pub ranged_by : (first : ℕ) → Option ℕ → Form
+ranged_by first None = Form.Wrong
+ranged_by first (Some n) = Form.Ranges first n
 
-unfoldable pub counted_to : (room count : ℕ) → Words → Count
-counted_to room count Words.Wrong = Count.Wrong
-counted_to room count (Words.Of times word) = Count.Of (put_count room count times)
+unfoldable pub counted_to : (room count : ℕ) → Option Words → Option ℕ
+counted_to room count None = None
+counted_to room count (Some w) = Some (put_count room count w.times)
 
-unfoldable pub stored_to : (words : List ℕ) (count : ℕ) → Words → List ℕ
-stored_to words count Words.Wrong = words
-stored_to words count (Words.Of times word) = put_words words count times word
+unfoldable pub stored_to : (words : List ℕ) (count : ℕ) → Option Words → List ℕ
+stored_to words count None = words
+stored_to words count (Some w) = put_words words count w.times w.word
 
-unfoldable pub cuts_by : Count → Form
-cuts_by Count.Wrong = Form.Wrong
-cuts_by (Count.Of n) = Form.Cuts n
+abbrev pub cuts_by : Option ℕ → Form
+cuts_by None = Form.Wrong
+cuts_by (Some n) = Form.Cuts n
 
-unfoldable pub sets_by : Target → (address : ℕ) → Count → Form
-sets_by target address Count.Wrong = Form.Wrong
-sets_by target address (Count.Of n) = Form.Sets target address n
+abbrev pub sets_by : Target → (address : ℕ) → Option ℕ → Form
+sets_by target address None = Form.Wrong
+sets_by target address (Some n) = Form.Sets target address n
 
 -- the line with one item more
 unfoldable pub taken_by : Form → Item → (room : ℕ) → Form

@@ -1,14 +1,14 @@
 // What a line is by the items that it has so far.
 #![tactic(auto)]
 
-ghost use Rattle.std.specs.Prelude.{◌≡◌, length};
+ghost use Rattle.std.specs.Prelude.{◌≡◌, length, unwrap_or};
+ghost use Rattle.forms.specs.declared.Form.TheVariants.{Wrong};
 ghost use Rattle.spelling.specs.Items.{words_of};
-ghost use Rattle.forms.specs.Forms.{taken_form, taken_words, named_by, numbered_by, written_by, ranged_by, counted_to, stored_to, cuts_by, sets_by};
+ghost use Rattle.forms.specs.Forms.{taken_form, taken_words, taken_by, kept_by, named_by, verb_with, counted_to, stored_to};
 
 mod words;
 
-use language::Value;
-use spelling::{Item, Words};
+use spelling::Item;
 
 // The words of the language that a number follows.
 #[derive(Clone, Copy)]
@@ -58,14 +58,8 @@ pub enum Form {
     Wrong,
 }
 
-// How many words there are with one item more.
-#[derive(Clone, Copy)]
-pub enum Count {
-    Wrong,
-    Of(usize),
-}
-
 // The line with one item more, if it is one.
+#[tactic(auto, unfolding(crate::specs::Forms::taken_form, crate::specs::Forms::taken_words))]
 pub fn taken(form: Form, item: Item, words: &mut [u16]) -> Form
     ensures value { result ≡ taken_form form item (length words.old) }
     ensures words_after { words.new ≡ taken_words form item words.old }
@@ -73,24 +67,41 @@ pub fn taken(form: Form, item: Item, words: &mut [u16]) -> Form
     if item.letters == 1 {
         return form;
     }
-    match form {
+    followed(form, item, words).unwrap_or(Form::Wrong)
+}
+
+// A line that an item follows, unless it is none then.
+#[tactic(auto, unfolding(crate::specs::Forms::taken_by, crate::specs::Forms::kept_by))]
+fn followed(form: Form, item: Item, words: &mut [u16]) -> Option<Form>
+    ensures value { unwrap_or result Wrong ≡ taken_by form item (length words.old) }
+    ensures words_after { words.new ≡ kept_by form item words.old }
+{
+    Some(match form {
         Form::Empty => named(item.letters, item.remark),
         Form::Remark => Form::Remark,
-        Form::Named(verb) => numbered(verb, spelling::number_of(item)),
-        Form::Reads(_) => Form::Wrong,
-        Form::Addresses(address) => written(address, spelling::number_of(item)),
-        Form::Writes(_, _) => Form::Wrong,
-        Form::Waits(_) => Form::Wrong,
-        Form::Cuts(count) => cuts(added(count, item, words)),
-        Form::Starts(first) => ranged(first, spelling::number_of(item)),
-        Form::Ranges(_, _) => Form::Wrong,
-        Form::Sets(target, address, count) => sets(target, address, added(count, item, words)),
-        Form::Freshens => Form::Wrong,
-        Form::Wrong => Form::Wrong,
-    }
+        Form::Named(verb) => numbered(verb, spelling::number_of(item)?),
+        Form::Addresses(address) => Form::Writes(
+            address,
+            u16::try_from(spelling::number_of(item)?).ok()?,
+        ),
+        Form::Cuts(count) => Form::Cuts(added(count, item, words)?),
+        Form::Starts(first) => Form::Ranges(first, spelling::number_of(item)?),
+        Form::Sets(target, address, count) => Form::Sets(
+            target,
+            address,
+            added(count, item, words)?,
+        ),
+        Form::Reads(_)
+        | Form::Writes(_, _)
+        | Form::Waits(_)
+        | Form::Ranges(_, _)
+        | Form::Freshens
+        | Form::Wrong => return None,
+    })
 }
 
 // The first item: the letters of each verb after a 1, as an item keeps them.
+#[tactic(auto, unfolding(crate::specs::Forms::named_by))]
 fn named(letters: u64, remark: bool) -> Form
     ensures { result ≡ named_by letters remark }
 {
@@ -110,70 +121,26 @@ fn named(letters: u64, remark: bool) -> Form
     }
 }
 
-fn numbered(verb: Verb, number: Value) -> Form
-    ensures { result ≡ numbered_by verb number }
+#[tactic(auto, unfolding(crate::specs::Forms::verb_with))]
+fn numbered(verb: Verb, number: u64) -> Form
+    ensures { result ≡ verb_with verb number }
 {
-    match number {
-        Value::Absent => Form::Wrong,
-        Value::Of(value) => match verb {
-            Verb::Read => Form::Reads(value),
-            Verb::Write => Form::Addresses(value),
-            Verb::Wait => Form::Waits(value),
-            Verb::Range => Form::Starts(value),
-            Verb::Cell => Form::Sets(Target::Cells, value, 0),
-            Verb::Otp => Form::Sets(Target::OneTime, value, 0),
-        },
+    match verb {
+        Verb::Read => Form::Reads(number),
+        Verb::Write => Form::Addresses(number),
+        Verb::Wait => Form::Waits(number),
+        Verb::Range => Form::Starts(number),
+        Verb::Cell => Form::Sets(Target::Cells, number, 0),
+        Verb::Otp => Form::Sets(Target::OneTime, number, 0),
     }
 }
 
-// "A word at most FFFFH."
-fn written(address: u64, number: Value) -> Form
-    ensures { result ≡ written_by address number }
-{
-    match number {
-        Value::Absent => Form::Wrong,
-        Value::Of(value) => {
-            if 0xffff < value {
-                return Form::Wrong;
-            }
-            Form::Writes(address, value as u16)
-        }
-    }
-}
-
-fn ranged(first: u64, number: Value) -> Form
-    ensures { result ≡ ranged_by first number }
-{
-    match number {
-        Value::Absent => Form::Wrong,
-        Value::Of(value) => Form::Ranges(first, value),
-    }
-}
-
-fn added(count: usize, item: Item, words: &mut [u16]) -> Count
+// How many words there are with an item more, if it is one of words.
+#[tactic(auto, unfolding(crate::specs::Forms::counted_to, crate::specs::Forms::stored_to))]
+fn added(count: usize, item: Item, words: &mut [u16]) -> Option<usize>
     ensures value { result ≡ counted_to (length words.old) count (words_of item) }
     ensures words_after { words.new ≡ stored_to words.old count (words_of item) }
 {
-    match spelling::words_of(item) {
-        Words::Wrong => Count::Wrong,
-        Words::Of(times, word) => Count::Of(words::put(words, count, times, word)),
-    }
-}
-
-fn cuts(count: Count) -> Form
-    ensures { result ≡ cuts_by count }
-{
-    match count {
-        Count::Wrong => Form::Wrong,
-        Count::Of(n) => Form::Cuts(n),
-    }
-}
-
-fn sets(target: Target, address: u64, count: Count) -> Form
-    ensures { result ≡ sets_by target address count }
-{
-    match count {
-        Count::Wrong => Form::Wrong,
-        Count::Of(n) => Form::Sets(target, address, n),
-    }
+    let more = spelling::words_of(item)?;
+    Some(words::put(words, count, more.times, more.word))
 }

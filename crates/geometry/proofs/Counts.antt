@@ -1,12 +1,12 @@
 -- How many blocks and banks a part has, and which numbers are theirs.
-use Prim.Native.Nat.{ℕ, zero, suc, ◌*◌, ◌<◌, ◌≤◌}
+use Prim.Native.Nat.{ℕ, zero, suc, ◌<◌, ◌≤◌}
 use mathlib.Core.Path.{◌≡◌, refl}
-use mathlib.Core.Bool.{Bool, true, false, cond}
 use native.Mathlib.Omega.{arith}
-use lib.Dec.{lit<, lit≤, ltb}
+use lib.Dec.{lit<, lit≤}
+use Rattle.std.proofs.lemmas.Bool.Decides.{nat_tests}
 use Rattle.geometry.specs.declared.Part.{Part}
 use Rattle.geometry.specs.declared.Part.TheVariants.{Small, Full}
-use Rattle.geometry.specs.Parts.{unit_of, block_count, bank_count, bank_in, bank_of, bank_of_block}
+use Rattle.geometry.specs.Parts.{block_count, bank_count, bank_in, bank_of, bank_of_block}
 
 pub blocks-are : (p : Part) → block_count p ≡ 270
 unfolding block_count
@@ -23,12 +23,6 @@ unfolding bank_count
 banks-are Small = refl
 banks-are Full = refl
 
-four : (s t u : Bool) → cond s 0 (cond t 1 (cond u 2 3)) < 4
-four true t u = lit< tt
-four false true u = lit< tt
-four false false true = lit< tt
-four false false false = lit< tt
-
 -- a set of blocks can hold every block of a part
 pub blocks-most : (p : Part) → block_count p ≤ 320
 blocks-most p = rw (blocks-are p) (lit≤ tt)
@@ -36,12 +30,12 @@ blocks-most p = rw (blocks-are p) (lit≤ tt)
 -- the bank of an address is one of the part's
 pub bank-below : (p : Part) (a : ℕ) → bank_of p a < bank_count p
 unfolding bank_of
-bank-below p a = rw (banks-are p) (four (ltb a (unit_of p * 256)) (ltb a (unit_of p * 1024)) (ltb a (unit_of p * 1792)))
+bank-below p a = rw (banks-are p) (grind (arith, nat_tests))
 
 -- and so is the bank of a block
 pub block-bank-below : (p : Part) (b : ℕ) → bank_of_block p b < bank_count p
 unfolding bank_in
-block-bank-below p b = rw (banks-are p, bank-is p b) (four (ltb b 39) (ltb b 135) (ltb b 231))
+block-bank-below p b = rw (banks-are p, bank-is p b) (grind (arith, nat_tests))
 
 -- every bank has a block
 pub record Held (p : Part) (bank : ℕ) : Type 0 where

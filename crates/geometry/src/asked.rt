@@ -1,4 +1,5 @@
 // What a program in C asks of an address, by plain numbers: any 64-bit number may be asked.
+// Six functions by name, not three that take the part: docs/DECISIONS.md ("Forms by place") and the definitions of `audit` name each.
 ghost use Rattle.std.specs.Prelude.{◌≡◌};
 ghost use Rattle.geometry.specs.declared.Part.TheVariants.{Small, Full};
 ghost use Rattle.geometry.specs.Asked.{refusal_asked, block_asked, bank_asked};
@@ -41,6 +42,7 @@ pub fn k5l_full_bank(address: usize) -> usize
     bank_asked(Part::full(), address)
 }
 
+#[tactic(auto, unfolding(crate::specs::Asked::refusal_asked))]
 fn refusal_asked(part: Part, address: usize) -> usize
     ensures { result ≡ refusal_asked part address }
 {
@@ -50,6 +52,7 @@ fn refusal_asked(part: Part, address: usize) -> usize
     3
 }
 
+#[tactic(auto, unfolding(crate::specs::Asked::block_asked))]
 fn block_asked(part: Part, address: usize) -> usize
     ensures { result ≡ block_asked part address }
 {
@@ -59,6 +62,7 @@ fn block_asked(part: Part, address: usize) -> usize
     0
 }
 
+#[tactic(auto, unfolding(crate::specs::Asked::bank_asked))]
 fn bank_asked(part: Part, address: usize) -> usize
     ensures { result ≡ bank_asked part address }
 {

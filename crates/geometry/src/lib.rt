@@ -9,7 +9,7 @@ pub mod asked;
 mod runs;
 
 // One of the two parts: there is no other value.
-#[derive(Clone, Copy)]
+#[derive(Clone, Copy, PartialEq, Eq)]
 pub enum Part {
     Small,
     Full,
@@ -58,31 +58,31 @@ impl Part {
         Part::Full
     }
 
+    #[tactic(auto, unfolding(crate::specs::Parts::unit_of))]
     pub fn words(self) -> usize
         ensures { result ≡ word_count self }
     {
-        let part = self;
-        match part {
+        match self {
             Part::Small => Part::SMALL_WORDS,
             Part::Full => Part::FULL_WORDS,
         }
     }
 
+    #[tactic(auto, unfolding(crate::specs::Parts::block_count))]
     pub fn blocks(self) -> usize
         ensures { result ≡ block_count self }
     {
-        let part = self;
-        match part {
+        match self {
             Part::Small => Part::SMALL_BLOCKS,
             Part::Full => Part::FULL_BLOCKS,
         }
     }
 
+    #[tactic(auto, unfolding(crate::specs::Parts::bank_count))]
     pub fn banks(self) -> usize
         ensures { result ≡ bank_count self }
     {
-        let part = self;
-        match part {
+        match self {
             Part::Small => Part::SMALL_BANKS,
             Part::Full => Part::FULL_BANKS,
         }
@@ -95,55 +95,55 @@ impl Part {
         runs::block_in(self.unit_at(address))
     }
 
+    #[tactic(auto, unfolding(crate::specs::Parts::unit_of, crate::specs::Parts::bank_of, crate::specs::Runs::bank_by))]
     pub fn bank_of(self, address: usize) -> usize
         ensures { result ≡ bank_of self address }
     {
-        let part = self;
-        match part {
+        match self {
             Part::Small => runs::bank_by(Part::SMALL_BANK_WORDS, address),
             Part::Full => runs::bank_by(Part::FULL_BANK_WORDS, address),
         }
     }
 
+    #[tactic(auto, unfolding(crate::specs::Parts::bank_in, crate::specs::Parts::bank_of_block, crate::specs::Runs::bank_by))]
     pub fn bank_of_block(self, block: usize) -> usize
         ensures { result ≡ bank_of_block self block }
     {
-        let part = self;
-        match part {
+        match self {
             Part::Small => runs::bank_by(Part::SMALL_BANK_BLOCKS, block),
             Part::Full => runs::bank_by(Part::FULL_BANK_BLOCKS, block),
         }
     }
 
     // The first word of a block; the word count of a number past the last block.
+    #[tactic(auto, using(crate::proofs::Units::first_le), unfolding(crate::specs::Parts::unit_of))]
     pub fn first_of(self, block: usize) -> usize
         ensures { result ≡ first_of self block }
     {
         let units = runs::first_in(block);
-        let part = self;
-        match part {
+        match self {
             Part::Small => Part::SMALL_BOOT_BLOCK * units,
             Part::Full => Part::FULL_BOOT_BLOCK * units,
         }
     }
 
     // How many words a block has; none of a number past the last block.
+    #[tactic(auto, unfolding(crate::specs::Parts::unit_of, crate::specs::Parts::size_in, crate::specs::Runs::size_by))]
     pub fn size_of(self, block: usize) -> usize
         ensures { result ≡ size_of self block }
     {
-        let part = self;
-        match part {
+        match self {
             Part::Small => runs::size_by(Part::SMALL_BOOT_BLOCK, Part::SMALL_MAIN_BLOCK, block),
             Part::Full => runs::size_by(Part::FULL_BOOT_BLOCK, Part::FULL_MAIN_BLOCK, block),
         }
     }
 
     // How many whole units lie before an address. A constant divides, so that it is a shift.
+    #[tactic(auto, unfolding(crate::specs::Parts::unit_of))]
     fn unit_at(self, address: usize) -> usize
         ensures { result ≡ address / unit_of self }
     {
-        let part = self;
-        match part {
+        match self {
             Part::Small => address / Part::SMALL_BOOT_BLOCK,
             Part::Full => address / Part::FULL_BOOT_BLOCK,
         }

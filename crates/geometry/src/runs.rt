@@ -4,7 +4,7 @@ ghost use Rattle.geometry.specs.Parts.{block_in, first_in};
 ghost use Rattle.geometry.specs.Runs.{bank_by, size_by};
 
 // The block that a unit is in.
-#[tactic(auto, using(crate::proofs::Units::block_low, crate::proofs::Units::block_main, crate::proofs::Units::block_top))]
+#[tactic(auto, unfolding(crate::specs::Parts::block_in))]
 pub fn block_in(unit: usize) -> usize
     ensures { result ≡ block_in unit }
 {
@@ -18,6 +18,7 @@ pub fn block_in(unit: usize) -> usize
 }
 
 // How many units lie before a block.
+#[tactic(auto, unfolding(crate::specs::Parts::first_in))]
 pub fn first_in(block: usize) -> usize
     ensures { result ≡ first_in block }
 {
@@ -34,6 +35,7 @@ pub fn first_in(block: usize) -> usize
 }
 
 // The bank of a word or a block, by the first of each bank.
+#[tactic(auto, unfolding(crate::specs::Runs::bank_by))]
 pub fn bank_by(starts: [usize; 4], at: usize) -> usize
     ensures { result ≡ bank_by starts at }
 {
@@ -50,6 +52,7 @@ pub fn bank_by(starts: [usize; 4], at: usize) -> usize
 }
 
 // The size of a block: boot blocks lie at both ends.
+#[tactic(auto, unfolding(crate::specs::Runs::size_by))]
 pub fn size_by(boot: usize, main: usize, block: usize) -> usize
     ensures { result ≡ size_by boot main block }
 {

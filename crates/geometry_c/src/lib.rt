@@ -1,4 +1,5 @@
-// The lookups of addresses alone, for a boot loader in C (include/k5l2931cam.h): each of `geometry`, with its contract.
+// The lookups of addresses alone, for a boot loader in C (include/k5l2931cam.h): each of `geometry`, with its contract. A crate is a
+// library or a static library, and not both.
 #![tactic(auto)]
 
 ghost use Rattle.std.specs.Prelude.{◌≡◌};

@@ -1,4 +1,5 @@
 -- What had begun by the record is what had begun by the history; it is one program and one block at most, apart and unprotected.
+use Rattle.std.specs.Prelude.{Option, Some}
 use Prim.Native.Nat.{ℕ, ◌-◌, ◌<◌}
 use mathlib.Core.Path.{◌≡◌, refl, sym, ap, ◌∙◌}
 use mathlib.Core.Bool.{true, false}
@@ -16,9 +17,6 @@ use Rattle.plain.specs.declared.Inside.TheVariants.{Nothing, Runs}
 use Rattle.plain.specs.declared.SuspendedErase.{SuspendedErase}
 use Rattle.plain.specs.declared.Operation.{Operation}
 use Rattle.plain.specs.declared.Operation.TheVariants.{Idle, Programming, ProgramSuspended, Window, Erasing, Recovering, EraseSuspended, ChipErasing, InOneTime, OneTimeProgramming}
-use Rattle.plain.specs.declared.Place.{Place}
-use Rattle.plain.specs.declared.Place.TheVariants.{At}
-use Rattle.plain.specs.declared.BegunProgram.TheVariants.{Writes}
 use Rattle.plain.specs.Figures.{program_time, erase_time, chip_time}
 use Rattle.plain.specs.Programs.{block_written}
 use Rattle.plain.specs.Operations.{suspension_of}
@@ -42,26 +40,26 @@ record There (left full b a : ℕ) : Type 0 where
   time : 0 < full - left
   place : b ≡ a
 
-there : (left full b a : ℕ) → if_begun left full b ≡ At a → There left full b a
+there : (left full b a : ℕ) → if_begun left full b ≡ Some a → There left full b a
 there left full b a =
-    by-test (λ (x : Place). x ≡ At a → There left full b a) (begun left full)
+    by-test (λ (x : Option ℕ). x ≡ Some a → There left full b a) (begun left full)
     (λ t e. record { time = omega (arith, ltb-true left full t); place = cc }) (λ t e. nowhere e)
 
-here : (left full b : ℕ) → 0 < full - left → if_begun left full b ≡ At b
+here : (left full b : ℕ) → 0 < full - left → if_begun left full b ≡ Some b
 here left full b g = rw (lt-ltb left full (omega arith))
 
-writing : (p : Part) (q : Program) → 0 < program_time p - q.left → program_begun p q ≡ Writes q.writes
+writing : (p : Part) (q : Program) → 0 < program_time p - q.left → program_begun p q ≡ Some q.writes
 writing p q g = rw (lt-ltb q.left (program_time p) (omega arith))
 
 -- ---- the record's begun program and block are the history's
 
 module _ (p : Part) where
-  inside-program-told : (e : Erase) (i : Inside) (d : Written) → begun_inside p i ≡ Writes d → ProgramBegun (seen_inside p e i) d
+  inside-program-told : (e : Erase) (i : Inside) (d : Written) → begun_inside p i ≡ Some d → ProgramBegun (seen_inside p e i) d
   unfolding begun_inside seen_inside
   inside-program-told e Nothing d h = no_program h
   inside-program-told e (Runs q) d h = let b = begins p q d h in rw (← b.what) (said.inside b.time)
 
-  pub program-told : (o : Operation) (d : Written) → Awake o → begun_program p o ≡ Writes d → ProgramBegun (seen_op p o) d
+  pub program-told : (o : Operation) (d : Written) → Awake o → begun_program p o ≡ Some d → ProgramBegun (seen_op p o) d
   unfolding begun_program seen_op suspension_of program_is_suspended
   program-told Idle d w h = no_program h
   program-told (Programming q) d w h = let b = begins p q d h in rw (← b.what) (said.ProgramBegun.running b.time)
@@ -74,12 +72,12 @@ module _ (p : Part) where
   program-told InOneTime d w h = no_program h
   program-told (OneTimeProgramming q) d w h = let b = begins p q d h in rw (← b.what) (said.entered b.time)
 
-  inside-block-told : (e : Erase) (i : Inside) (b : ℕ) → if_begun e.left (erase_time p) e.hand ≡ At b → EraseBegun (seen_inside p e i) b
+  inside-block-told : (e : Erase) (i : Inside) (b : ℕ) → if_begun e.left (erase_time p) e.hand ≡ Some b → EraseBegun (seen_inside p e i) b
   unfolding seen_inside
   inside-block-told e Nothing b d = let t = there e.left (erase_time p) e.hand b d in rw (← t.place) (said.resting t.time)
   inside-block-told e (Runs q) b d = let t = there e.left (erase_time p) e.hand b d in rw (← t.place) (said.around t.time)
 
-  pub block-told : (o : Operation) (b : ℕ) → begun_block p o ≡ At b → EraseBegun (seen_op p o) b
+  pub block-told : (o : Operation) (b : ℕ) → begun_block p o ≡ Some b → EraseBegun (seen_op p o) b
   unfolding begun_block seen_op
   block-told Idle b d = nowhere d
   block-told (Programming q) b d = nowhere d
@@ -98,12 +96,12 @@ module _ (p : Part) where
 
   -- ---- and back
 
-  inside-program-is : (e : Erase) (i : Inside) (d : Written) → ProgramBegun (seen_inside p e i) d → begun_inside p i ≡ Writes d
+  inside-program-is : (e : Erase) (i : Inside) (d : Written) → ProgramBegun (seen_inside p e i) d → begun_inside p i ≡ Some d
   unfolding seen_inside begun_inside
   inside-program-is e (Runs q) d (said.inside g) = writing p q g
   inside-program-is e Nothing d x' = elim x' [ ]
 
-  pub program-is : (o : Operation) (d : Written) → ProgramBegun (seen_op p o) d → begun_program p o ≡ Writes d
+  pub program-is : (o : Operation) (d : Written) → ProgramBegun (seen_op p o) d → begun_program p o ≡ Some d
   unfolding seen_op begun_program
   program-is (Programming q) d (said.ProgramBegun.running g) = writing p q g
   program-is (EraseSuspended x) d g = inside-program-is x.erase x.inside d g
@@ -116,12 +114,12 @@ module _ (p : Part) where
   program-is (ChipErasing _) d g = elim g [ ]
   program-is InOneTime d g = elim g [ ]
 
-  inside-block-is : (e : Erase) (i : Inside) (b : ℕ) → EraseBegun (seen_inside p e i) b → if_begun e.left (erase_time p) e.hand ≡ At b
+  inside-block-is : (e : Erase) (i : Inside) (b : ℕ) → EraseBegun (seen_inside p e i) b → if_begun e.left (erase_time p) e.hand ≡ Some b
   unfolding seen_inside
   inside-block-is e Nothing b (said.resting g) = here e.left (erase_time p) e.hand g
   inside-block-is e (Runs q) b (said.around g) = here e.left (erase_time p) e.hand g
 
-  pub block-is : (o : Operation) (b : ℕ) → EraseBegun (seen_op p o) b → begun_block p o ≡ At b
+  pub block-is : (o : Operation) (b : ℕ) → EraseBegun (seen_op p o) b → begun_block p o ≡ Some b
   unfolding seen_op begun_block
   block-is (Erasing e) b (said.EraseBegun.running g) = here e.left (erase_time p) e.hand g
   block-is (Recovering r) b (said.recovering g) = here r.erase.left (erase_time p) r.erase.hand g
@@ -163,10 +161,10 @@ module _ (p : Part) where
   -- ---- by soundness the program and the block are apart, in the part, and unprotected
 
   module _ (bits : Protection) where
-    block-free-of : (e : Erase) (full b : ℕ) → EraseFacts p bits e full → if_begun e.left full e.hand ≡ At b → protected bits b ≡ false
+    block-free-of : (e : Erase) (full b : ℕ) → EraseFacts p bits e full → if_begun e.left full e.hand ≡ Some b → protected bits b ≡ false
     block-free-of e full b f d = rw (← (there e.left full e.hand b d).place) (erasable-free bits e.hand (f.erasable e.hand f.hand-listed))
 
-    pub block-free : (o : Operation) → operation_sound p bits o ≡ true → (b : ℕ) → begun_block p o ≡ At b → protected bits b ≡ false
+    pub block-free : (o : Operation) → operation_sound p bits o ≡ true → (b : ℕ) → begun_block p o ≡ Some b → protected bits b ≡ false
     unfolding begun_block
     block-free Idle s b e = nowhere e
     block-free (Programming q) s b e = nowhere e
@@ -179,8 +177,8 @@ module _ (p : Part) where
     block-free InOneTime s b e = nowhere e
     block-free (OneTimeProgramming q) s b e = nowhere e
 
-    inside-apart : (x : SuspendedErase) (i : Inside) → x.inside ≡ i → operation_sound p bits (EraseSuspended x) ≡ true → (d : Written) (b : ℕ) → begun_inside p i ≡ Writes d
-        → if_begun x.erase.left (erase_time p) x.erase.hand ≡ At b → block_written p d ≡ b → ⊥
+    inside-apart : (x : SuspendedErase) (i : Inside) → x.inside ≡ i → operation_sound p bits (EraseSuspended x) ≡ true → (d : Written) (b : ℕ) → begun_inside p i ≡ Some d
+        → if_begun x.erase.left (erase_time p) x.erase.hand ≡ Some b → block_written p d ≡ b → ⊥
     unfolding begun_inside
     inside-apart x Nothing t s d b e f g = no_program e
     inside-apart x (Runs q) t s d b e f g =
@@ -188,7 +186,7 @@ module _ (p : Part) where
         let block : block_written p q.writes ≡ x.erase.hand = ap (block_written p) (begins p q d e).what ∙ g ∙ sym u.place in
         clash (erase-suspended p bits x s).erase.hand-listed (ap (has x.erase.list) (sym block) ∙ (inside-runs p bits x q s t).off_list)
 
-    pub apart : (o : Operation) → operation_sound p bits o ≡ true → (d : Written) (b : ℕ) → begun_program p o ≡ Writes d → begun_block p o ≡ At b → block_written p d ≡ b → ⊥
+    pub apart : (o : Operation) → operation_sound p bits o ≡ true → (d : Written) (b : ℕ) → begun_program p o ≡ Some d → begun_block p o ≡ Some b → block_written p d ≡ b → ⊥
     unfolding begun_program begun_block
     apart Idle s d b e f g = no_program e
     apart (Programming q) s d b e f g = nowhere f

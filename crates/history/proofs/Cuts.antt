@@ -1,4 +1,5 @@
 -- An accepted cut: each word holds what the facts of the history give it.
+use Rattle.std.specs.Prelude.{Option}
 use Prim.Native.Nat.{ℕ, ◌-◌, ◌≤◌}
 use mathlib.Core.Path.{◌≡◌, refl, sym, ◌∙◌}
 use mathlib.Core.Bool.{true}
@@ -17,7 +18,6 @@ use Rattle.plain.specs.declared.SuspendedErase.{SuspendedErase}
 use Rattle.plain.specs.declared.Operation.{Operation}
 use Rattle.plain.specs.declared.Operation.TheVariants.{Idle, Programming, ProgramSuspended, Window, Erasing, Recovering, EraseSuspended, ChipErasing, InOneTime, OneTimeProgramming}
 use Rattle.plain.specs.declared.Suspension.{Suspension}
-use Rattle.plain.specs.declared.Place.{Place}
 use Rattle.std.specs.Prelude.{if◌then◌else◌}
 use Rattle.plain.specs.Figures.{program_time, erase_time, chip_time}
 use Rattle.plain.specs.Lent.{Lent, Whole}
@@ -41,7 +41,7 @@ progress l full =
     (λ e. le-ltb 0 (full - l) (omega (arith, ltb-false l full e)) ∙ sym e)
 
 module _ (p : Part) (bits : Protection) where
-  abbrev block_of : SuspendedErase → Place
+  abbrev block_of : SuspendedErase → Option ℕ
   block_of x = if_begun x.erase.left (erase_time p) x.erase.hand
 
   debris-of : (left full b : ℕ) → block_debris p (if_begun left full b) ≡ (if ltb 0 (full - left) then size_of p b else 0)

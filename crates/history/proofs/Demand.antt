@@ -1,4 +1,5 @@
 -- Demand 3, proved: what an accepted cut leaves, after any run of a fresh device; and what the history says of words and charge.
+use Rattle.std.specs.Prelude.{Some}
 use Prim.Native.Nat.{ℕ, ◌-◌, ◌<◌, ◌≤◌}
 use mathlib.Core.Path.{◌≡◌, refl, sym, ap, ◌∙◌, subst}
 use mathlib.Core.Bool.{true, false}
@@ -14,8 +15,6 @@ use Rattle.plain.specs.declared.Array.{Array}
 use Rattle.plain.specs.declared.Array.TheVariants.{Main, OneTime}
 use Rattle.plain.specs.declared.Refusal.TheVariants.{Done, Debris}
 use Rattle.plain.specs.declared.Written.{Written}
-use Rattle.plain.specs.declared.Place.TheVariants.{At}
-use Rattle.plain.specs.declared.BegunProgram.TheVariants.{Writes}
 use Rattle.plain.specs.declared.Device.{Device}
 use Rattle.plain.specs.Events.{cut}
 use Rattle.plain.specs.Lent.{Lent, array_of, word_at, Whole}
@@ -66,12 +65,12 @@ module _ (p : Part) (start : Lent) (fs : List Fact) (r : Device) (l : Lent) (deb
   after-whole : Whole p after_block
   after-whole = block-whole p r.operation debris l fit.whole enough
 
-  missed : (y : Array) (x : ℕ) → ((d : Written) → begun_program p r.operation ≡ Writes d → writes d y x ≡ false)
-      → ((b : ℕ) → begun_block p r.operation ≡ At b → in_block p b y x ≡ false) → word_at after y x ≡ word_at l y x
+  missed : (y : Array) (x : ℕ) → ((d : Written) → begun_program p r.operation ≡ Some d → writes d y x ≡ false)
+      → ((b : ℕ) → begun_block p r.operation ≡ Some b → in_block p b y x ≡ false) → word_at after y x ≡ word_at l y x
   missed y x no_word no_block = untouched p r.operation debris l fit.whole enough lies y x no_word no_block
 
   -- a word of the begun program lies outside the begun block
-  outside : (y : Array) (x : ℕ) (d : Written) → begun_program p r.operation ≡ Writes d → writes d y x ≡ true → (b : ℕ) → begun_block p r.operation ≡ At b → in_block p b y x ≡ false
+  outside : (y : Array) (x : ℕ) (d : Written) → begun_program p r.operation ≡ Some d → writes d y x ≡ true → (b : ℕ) → begun_block p r.operation ≡ Some b → in_block p b y x ≡ false
   outside Main x d e t b f = ne_eqb (block_of p x) b (λ g. apart p r.bits r.operation op-sound d b e f (sym (written-in-block p d Main x t) ∙ g))
   outside OneTime x d e t b f = refl
 

@@ -1,4 +1,5 @@
 -- A word of a protected block, or a locked one-time word, is spared by a cut; and a locked one-time word by time.
+use Rattle.std.specs.Prelude.{Some}
 use Prim.Native.Nat.{ℕ, zero, suc, ◌≤◌}
 use mathlib.Core.Path.{◌≡◌, refl, ap, ◌∙◌}
 use mathlib.Core.Bool.{true, false}
@@ -19,7 +20,6 @@ use Rattle.plain.specs.declared.SuspendedErase.{SuspendedErase}
 use Rattle.plain.specs.declared.Operation.{Operation}
 use Rattle.plain.specs.declared.Operation.TheVariants.{Idle, Programming, ProgramSuspended, Window, Erasing, Recovering, EraseSuspended, ChipErasing, InOneTime, OneTimeProgramming}
 use Rattle.plain.specs.declared.Suspension.{Suspension}
-use Rattle.plain.specs.declared.Place.TheVariants.{At}
 use Rattle.std.specs.Prelude.{if◌then◌else◌}
 use Rattle.plain.specs.Cut.{begun_block, debris_needed, cut_lent}
 use Rattle.plain.specs.Holds.{in_block}
@@ -51,7 +51,7 @@ module _ (p : Part) (bits : Protection) where
 
   -- ---- a cut
 
-  not-erased : (o : Operation) → Fit o → (y : Array) (x : ℕ) → held_back p bits y x ≡ true → (b : ℕ) → begun_block p o ≡ At b → in_block p b y x ≡ false
+  not-erased : (o : Operation) → Fit o → (y : Array) (x : ℕ) → held_back p bits y x ≡ true → (b : ℕ) → begun_block p o ≡ Some b → in_block p b y x ≡ false
   not-erased o s Main x h b e = ne_eqb (block_of p x) b (λ d. clash h (ap (protected bits) d ∙ block-free p bits o s b e))
   not-erased o s OneTime x h b e = refl
 

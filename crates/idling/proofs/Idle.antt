@@ -1,4 +1,5 @@
 -- What the face answers of an idle device: the words as they are, but for the command's or the meter's.
+use Rattle.std.specs.Prelude.{Ok, Err}
 use Prim.Native.Nat.{ℕ, ◌+◌, ◌*◌, ◌<◌, ◌≤◌}
 use mathlib.Core.Path.{◌≡◌, sym, ap, ◌∙◌}
 use mathlib.Core.Bool.{true, false}
@@ -15,7 +16,6 @@ use Rattle.plain.specs.declared.Command.TheVariants.{Ground, Entering}
 use Rattle.plain.specs.declared.Cycle.TheVariants.{Unlock}
 use Rattle.plain.specs.declared.Suspension.TheVariants.{Unsuspended}
 use Rattle.plain.specs.declared.Device.{Device}
-use Rattle.plain.specs.declared.Entry.TheVariants.{Admitted, Barred}
 use Rattle.plain.specs.Commands.{written, entered, effected, at_ground, resumes, resets}
 use Rattle.plain.specs.Cycles.{is, first_unlock}
 use Rattle.plain.specs.Figures.{clock_limit, standby_current, running_current}
@@ -36,7 +36,7 @@ use Rattle.plain.proofs.Ticks.{still}
 use Rattle.layout.specs.Image.{image_of, meter_of, bits_of, device_of, idle_words}
 use Rattle.layout.specs.Stored.{with_meter, with_command}
 use Rattle.layout.proofs.Idle.{idle-well, idle-device}
-use Rattle.layout.proofs.Stored.{stored-meter, stored-command}
+use Rattle.layout.proofs.Stored.{stored_meter, stored_command}
 use Rattle.face.specs.Entry.{face_entry}
 use Rattle.face.specs.Face.{is_part, part_named, stands, stands_sound, answered, shown, face_read, face_write, face_wait}
 use Rattle.face.proofs.Faces.{enters, kept, entry-none, entry-some, read_some, write-some, wait-some}
@@ -67,7 +67,7 @@ module _ (part : ℕ) (i : List ℕ) (idle : idle_words i ≡ true) where
   a-part h = rw (stands-idle h, idle-device i idle)
 
   module _ (cells otp : List ℕ) where
-    pub not_sound : stands_sound part i ≡ false → face_entry part i cells otp ≡ Barred State
+    pub not_sound : stands_sound part i ≡ false → face_entry part i cells otp ≡ Err State
     unfolding stands_sound
     not_sound u =
         by_cases (stands part i) (λ s. entry-some part i cells otp s ∙ entry-state (part_named part) (device_of i) (lent cells otp) (rw s at u))
@@ -82,22 +82,22 @@ module _ (part : ℕ) (i : List ℕ) (idle : idle_words i ≡ true) where
       unfolding stands_sound
       so = both_right (stands part i) _ s
 
-      not-both : is_whole (part_named part) (lent cells otp) ≡ false → face_entry part i cells otp ≡ Barred Cells
+      not-both : is_whole (part_named part) (lent cells otp) ≡ false → face_entry part i cells otp ≡ Err Cells
       not-both n = entry-some part i cells otp its ∙ entry-cells (part_named part) (device_of i) (lent cells otp) so n
 
-      pub not-whole : (length cells ≡ word_count (part_named part) → ⊥) → face_entry part i cells otp ≡ Barred Cells
+      pub not-whole : (length cells ≡ word_count (part_named part) → ⊥) → face_entry part i cells otp ≡ Err Cells
       not-whole n = not-both (rw (ne_eqb (length cells) (word_count (part_named part)) n))
 
       module _ (n : length cells ≡ word_count (part_named part)) where
-        pub not-whole-otp : (length otp ≡ otp_words → ⊥) → face_entry part i cells otp ≡ Barred Cells
+        pub not-whole-otp : (length otp ≡ otp_words → ⊥) → face_entry part i cells otp ≡ Err Cells
         not-whole-otp m = not-both (rw (eq-eqb (length cells) (word_count (part_named part)) n, ne_eqb (length otp) otp_words m))
 
-        pub goes_in : length otp ≡ otp_words → face_entry part i cells otp ≡ Admitted
+        pub goes_in : length otp ≡ otp_words → face_entry part i cells otp ≡ (Ok tt)
         goes_in m =
             entry-some part i cells otp its
             ∙ entry-admitted (part_named part) (device_of i) (lent cells otp) (record { sound = so; whole = whole-both (part_named part) (lent cells otp) n m })
 
-    module _ (e : face_entry part i cells otp ≡ Admitted) where
+    module _ (e : face_entry part i cells otp ≡ (Ok tt)) where
       stood : stands part i ≡ true
       stood = (enters part i cells otp e).stands
 
@@ -142,7 +142,7 @@ module _ (part : ℕ) (i : List ℕ) (idle : idle_words i ≡ true) where
             pub write-unlock : first_unlock a w ≡ true → face_write part i cells otp a w ≡ answered (number Done) 0 (with_command i (Entering Unlock)) cells otp
             unfolding effected at_ground
             write-unlock f =
-                at-ground ∙ rw f (ap (λ (z : List ℕ). answered (number Done) 0 z cells otp) (sym (rw (idle-device i idle) at (stored-command i (idle-well i idle) (Entering Unlock)))))
+                at-ground ∙ rw f (ap (λ (z : List ℕ). answered (number Done) 0 z cells otp) (sym (rw (idle-device i idle) at (stored_command i (idle-well i idle) (Entering Unlock)))))
 
             pub write-reset : first_unlock a w ≡ false → is w 0xF0 ≡ true → face_write part i cells otp a w ≡ answered (number Done) 0 i cells otp
             unfolding effected at_ground resets
@@ -177,4 +177,4 @@ module _ (part : ℕ) (i : List ℕ) (idle : idle_words i ≡ true) where
         wait-stands h =
             wait-found
             ∙ (ap shown (events.wait-passes (part_named part) found (lent cells otp) n fit h ∙ ap (waited found) (still (part_named part) Idle (standby_current (part_named part)) (idle-still (part_named part)) n (meter_of i) (lent cells otp)))
-            ∙ ap (λ (z : List ℕ). answered (number Done) 0 z cells otp) (sym (rw (idle-device i idle) at (stored-meter i (idle-well i idle) spent))))
+            ∙ ap (λ (z : List ℕ). answered (number Done) 0 z cells otp) (sym (rw (idle-device i idle) at (stored_meter i (idle-well i idle) spent))))

@@ -1,11 +1,13 @@
 // Words from a place on: five for a set of blocks.
-ghost use Rattle.std.specs.Prelude.{◌≡◌, ◌+◌, ◌≤◌, length};
+ghost use Rattle.std.specs.Prelude.{◌≡◌, ◌+◌, ◌≤◌};
+ghost use Rattle.layout.specs.Places.{record_words};
 ghost use Rattle.layout.specs.Image.{blocks_at};
 
 use blocks::Blocks;
+use layout::RECORD_WORDS;
 
-pub fn blocks_at(words: &[u64], from: usize) -> Blocks
-    requires { from + 5 ≤ length words.now }
+pub fn blocks_at(words: &[u64; RECORD_WORDS], from: usize) -> Blocks
+    requires { from + 5 ≤ record_words }
     ensures { result ≡ blocks_at words.now from }
 {
     Blocks {

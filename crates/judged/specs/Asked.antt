@@ -1,8 +1,7 @@
 -- What people ask of a device besides its events.
+use Rattle.std.specs.Prelude.{None}
 use Rattle.std.specs.Prelude.{ℕ, Bool, ◌&&◌}
 use Rattle.geometry.specs.declared.Part.{Part}
-use Rattle.plain.specs.declared.Place.TheVariants.{Nowhere}
-use Rattle.plain.specs.declared.Spot.TheVariants.{NoWord}
 use Rattle.plain.specs.declared.Device.{Device}
 use Rattle.std.specs.Prelude.{if◌then◌else◌}
 use Rattle.plain.specs.Sound.{sound}
@@ -13,7 +12,7 @@ use Rattle.mapping.specs.Mapped.{gives_cells}
 -- ---- "when the pack runs flat during a firmware update, which words of the flash may have changed"
 
 abbrev pub none_exposed : Exposed
-none_exposed = record { block = Nowhere; word = NoWord }
+none_exposed = record { block = None; word = None }
 
 -- the block whose erase has begun and the word, of either array, whose program has begun; an unsound record refuses every cut
 unfoldable pub exposed_now : Part → Device → Exposed

@@ -6,42 +6,34 @@ use geometry::Part;
 use plain::Device;
 use remaining::Change;
 
-// A figure that only a sound record has.
-#[derive(Clone, Copy)]
-pub enum Figure {
-    Unknown,
-    Known(u64),
-}
-
 // How many microseconds until nothing runs any more.
-pub fn until_end(part: Part, device: Device) -> Figure
+pub fn until_end(part: Part, device: Device) -> Option<u64>
     ensures { result ≡ end_now part device }
 {
     if !soundness::is_sound(part, device) {
-        return Figure::Unknown;
+        return None;
     }
-    let operation = device.operation;
-    Figure::Known(remaining::until_end(part, operation))
+    Some(remaining::until_end(part, device.operation))
 }
 
 // What the device does next by itself: when, and at which word of which array or at which block.
+#[tactic(auto, unfolding(crate::specs::Foreseen::change_now))]
 pub fn until_change(part: Part, device: Device) -> Change
     ensures { result ≡ change_now part device }
 {
     if !soundness::is_sound(part, device) {
         return Change::Never;
     }
-    let operation = device.operation;
-    remaining::change_of(operations::running_of(operation))
+    remaining::change_of(operations::running_of(device.operation))
 }
 
 // How many words of debris a cut would need if it came now.
-pub fn debris_needed(part: Part, device: Device) -> Figure
+#[tactic(auto, unfolding(crate::specs::Foreseen::debris_now))]
+pub fn debris_needed(part: Part, device: Device) -> Option<u64>
     ensures { result ≡ debris_now part device }
 {
     if !soundness::is_sound(part, device) {
-        return Figure::Unknown;
+        return None;
     }
-    let operation = device.operation;
-    Figure::Known(cutting::debris_needed(part, operation) as u64)
+    Some(cutting::debris_needed(part, device.operation) as u64)
 }

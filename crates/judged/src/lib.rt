@@ -10,58 +10,50 @@ ghost use Rattle.judged.specs.Asked.{exposed_now, reads_cells};
 
 use cutting::Exposed;
 use geometry::Part;
-use plain::{Device, Entry, Place, Refusal, Spot, figures};
+use plain::{Device, Refusal, figures};
 
 pub mod foreseen;
 
-pub use foreseen::Figure;
-
 // The checks that every event begins with: STATE, then CELLS. It is told whether the record is sound, and not handed the record,
 // which the compiler would copy.
-pub fn entry(part: Part, good: bool, cells: &[u16], otp: &[u16]) -> Entry
+pub fn entry(part: Part, good: bool, cells: &[u16], otp: &[u16]) -> Result<(), Refusal>
     ensures { (d : Device) → good ≡ sound part d → result ≡ entry part d (lent cells.now otp.now) }
 {
     if !good {
-        return Entry::Barred(Refusal::State);
+        return Err(Refusal::State);
     }
     if !is_whole(part, cells, otp) {
-        return Entry::Barred(Refusal::Cells);
+        return Err(Refusal::Cells);
     }
-    Entry::Admitted
+    Ok(())
 }
 
 // "the lent length is not the part's word count"; "CELLS for another OTP length"
 fn is_whole(part: Part, cells: &[u16], otp: &[u16]) -> bool
     ensures { result ≡ is_whole part (lent cells.now otp.now) }
 {
-    if cells.len() == part.words() {
-        return otp.len() == figures::OTP_WORDS;
-    }
-    false
+    cells.len() == part.words() && otp.len() == figures::OTP_WORDS
 }
 
 // Which block and which word of which array an accepted cut would change if it came now; none for a record that is not sound.
+#[tactic(auto, unfolding(crate::specs::Asked::exposed_now))]
 pub fn exposed(part: Part, device: Device) -> Exposed
     ensures { result ≡ exposed_now part device }
 {
     if !soundness::is_sound(part, device) {
         return Exposed {
-            block: Place::Nowhere,
-            word: Spot::NoWord,
+            block: None,
+            word: None,
         };
     }
-    let operation = device.operation;
-    cutting::exposed(part, operation)
+    cutting::exposed(part, device.operation)
 }
 
 // Do reads in a bank give the cells and change nothing? Then an emulator may map the cells while it holds.
+#[tactic(auto, unfolding(crate::specs::Asked::reads_cells))]
 pub fn reads_cells(part: Part, device: Device, bank: usize) -> bool
     ensures { result ≡ reads_cells part device bank }
 {
-    if !soundness::is_sound(part, device) {
-        return false;
-    }
-    let command = device.command;
-    let operation = device.operation;
-    mapping::gives_cells(part, command, operation, bank)
+    soundness::is_sound(part, device)
+        && mapping::gives_cells(part, device.command, device.operation, bank)
 }

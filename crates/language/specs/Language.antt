@@ -1,7 +1,6 @@
 -- The language of event scripts, whole lines at a time: what a line's bytes ask for. The reader is proved to give this.
-use Rattle.std.specs.Prelude.{ℕ, ◌+◌, ◌*◌, ◌-◌, ◌^◌, ◌<◌, Bool, true, false, ◌&&◌, ◌||◌, List, [], ◌∷◌, ◌++◌, eqb, leb, ltb, length, take, replicate}
+use Rattle.std.specs.Prelude.{ℕ, ◌+◌, ◌*◌, ◌-◌, ◌^◌, ◌<◌, Bool, true, false, ◌&&◌, ◌||◌, List, [], ◌∷◌, ◌++◌, eqb, leb, ltb, length, take, replicate, Option, Some, None}
 use Rattle.std.specs.Prelude.{if◌then◌else◌}
-use Rattle.language.specs.declared.Value.{Value}
 
 pub data Meaning : Type 0 where
   nothing : Meaning
@@ -53,58 +52,54 @@ digit_of b =
     else 16
 
 -- the value of digits behind those that make `value`
-unfoldable pub digits : (base : ℕ) (bytes : List ℕ) (value : ℕ) → Value
-digits base [] value = Value.Of value
-digits base (b ∷ bytes) value = if ltb (digit_of b) base then digits base bytes (value * base + digit_of b) else Value.Absent
+unfoldable pub digits : (base : ℕ) (bytes : List ℕ) (value : ℕ) → Option ℕ
+digits base [] value = Some value
+digits base (b ∷ bytes) value = if ltb (digit_of b) base then digits base bytes (value * base + digit_of b) else None
 
-abbrev pub some_digits : (base : ℕ) (bytes : List ℕ) → Value
-some_digits base [] = Value.Absent
+abbrev pub some_digits : (base : ℕ) (bytes : List ℕ) → Option ℕ
+some_digits base [] = None
 some_digits base (b ∷ bytes) = digits base (b ∷ bytes) 0
 
 -- "Numbers are decimal, or hexadecimal after `0x`"
-unfoldable pub any_number : (bytes : List ℕ) → Value
-any_number [] = Value.Absent
+unfoldable pub any_number : (bytes : List ℕ) → Option ℕ
+any_number [] = None
 any_number (b ∷ []) = some_digits 10 (b ∷ [])
 any_number (b ∷ c ∷ bytes) = if eqb b 48 && eqb c 120 then some_digits 16 bytes else some_digits 10 (b ∷ c ∷ bytes)
 
-abbrev pub at_most : (top : ℕ) → Value → Value
-at_most top Value.Absent = Value.Absent
-at_most top (Value.Of n) = if leb n top then Value.Of n else Value.Absent
+abbrev pub at_most : (top : ℕ) → Option ℕ → Option ℕ
+at_most top None = None
+at_most top (Some n) = if leb n top then Some n else None
 
-abbrev pub number : (top : ℕ) (bytes : List ℕ) → Value
+abbrev pub number : (top : ℕ) (bytes : List ℕ) → Option ℕ
 number top bytes = at_most top (any_number bytes)
 
 -- "an address and a wait are at most 2^64 - 1, a word at most FFFFH"
-abbrev pub figure : (bytes : List ℕ) → Value
+abbrev pub figure : (bytes : List ℕ) → Option ℕ
 figure = number (2 ^ 64 - 1)
 
-abbrev pub word : (bytes : List ℕ) → Value
+abbrev pub word : (bytes : List ℕ) → Option ℕ
 word = number 0xffff
 
 -- ---- words
 
-pub data Listed : Type 0 where
-  wrong : Listed
-  these : (words : List ℕ) → Listed
-
-abbrev pub times : Value → Value → Listed
-times Value.Absent w = wrong
-times (Value.Of n) Value.Absent = wrong
-times (Value.Of n) (Value.Of w) = these (replicate n w)
+abbrev pub times : Option ℕ → Option ℕ → Option (List ℕ)
+times None w = None
+times (Some n) None = None
+times (Some n) (Some w) = Some (replicate n w)
 
 -- "`N*W` stands for N times W, N at most 16384": the words of an item, of which some bytes without a `*` are passed
-unfoldable pub words_from : (passed bytes : List ℕ) → Listed
-words_from passed [] = times (Value.Of 1) (word passed)
+unfoldable pub words_from : (passed bytes : List ℕ) → Option (List ℕ)
+words_from passed [] = times (Some 1) (word passed)
 words_from passed (b ∷ bytes) =
     if eqb b 42 then times (number 16384 passed) (word bytes) else words_from (passed ++ (b ∷ [])) bytes
 
-abbrev pub joined : Listed → Listed → Listed
-joined wrong more = wrong
-joined (these words) wrong = wrong
-joined (these words) (these more) = these (words ++ more)
+abbrev pub joined : Option (List ℕ) → Option (List ℕ) → Option (List ℕ)
+joined None more = None
+joined (Some words) None = None
+joined (Some words) (Some more) = Some (words ++ more)
 
-unfoldable pub words : (items : List (List ℕ)) → Listed
-words [] = these []
+unfoldable pub words : (items : List (List ℕ)) → Option (List ℕ)
+words [] = Some []
 words (item ∷ items) = joined (words_from [] item) (words items)
 
 -- ---- the table of lines
@@ -120,9 +115,9 @@ abbrev pub is_remark : (item : List ℕ) → Bool
 is_remark [] = false
 is_remark (b ∷ bytes) = eqb b 35
 
-abbrev pub asked : (ℕ → Meaning) → Value → Meaning
-asked meaning Value.Absent = malformed
-asked meaning (Value.Of n) = meaning n
+abbrev pub asked : (ℕ → Meaning) → Option ℕ → Meaning
+asked meaning None = malformed
+asked meaning (Some n) = meaning n
 
 -- `read A`, `wait D`
 abbrev pub one_figure : (ℕ → Meaning) → (items : List (List ℕ)) → Meaning
@@ -131,21 +126,21 @@ one_figure meaning (a ∷ []) = asked meaning (figure a)
 one_figure meaning (a ∷ b ∷ items) = malformed
 
 -- `write A W`, `range A N`, by what the second number is
-abbrev pub two_numbers : (ℕ → ℕ → Meaning) → (second : (bytes : List ℕ) → Value) → (items : List (List ℕ)) → Meaning
+abbrev pub two_numbers : (ℕ → ℕ → Meaning) → (second : (bytes : List ℕ) → Option ℕ) → (items : List (List ℕ)) → Meaning
 two_numbers meaning second [] = malformed
 two_numbers meaning second (a ∷ []) = malformed
 two_numbers meaning second (a ∷ b ∷ []) = asked (λ address. asked (meaning address) (second b)) (figure a)
 two_numbers meaning second (a ∷ b ∷ x ∷ items) = malformed
 
 -- `cut W..`: no part of the die has more than 16384 words of debris to take, and what is over is ignored
-abbrev pub cut_of : Listed → Meaning
-cut_of wrong = malformed
-cut_of (these debris) = cut (take 16384 debris)
+abbrev pub cut_of : Option (List ℕ) → Meaning
+cut_of None = malformed
+cut_of (Some debris) = cut (take 16384 debris)
 
 -- `cell A W..`, `otp A W..`, by how many words there are to set
-abbrev pub set_of : (ℕ → List ℕ → Meaning) → (size address : ℕ) → Listed → Meaning
-set_of meaning size address wrong = malformed
-set_of meaning size address (these set) = if leb (address + length set) size then meaning address set else malformed
+abbrev pub set_of : (ℕ → List ℕ → Meaning) → (size address : ℕ) → Option (List ℕ) → Meaning
+set_of meaning size address None = malformed
+set_of meaning size address (Some set) = if leb (address + length set) size then meaning address set else malformed
 
 abbrev pub set_line : (ℕ → List ℕ → Meaning) → (size : ℕ) (items : List (List ℕ)) → Meaning
 set_line meaning size [] = malformed

@@ -1,12 +1,5 @@
-// What a line of a script may ask for: the types that the language of specs/ is written over. No function.
+// What a line of a script may ask for: the type that specs/Orders is written over; specs/Language has what its bytes mean. No function.
 #![tactic(auto)]
-
-// A number's value, if it has one.
-#[derive(Clone, Copy)]
-pub enum Value {
-    Absent,
-    Of(u64),
-}
 
 // What a whole line asks for.
 #[derive(Clone, Copy)]

@@ -37,8 +37,8 @@ module _ (i : List ℕ) (h : idle_words i ≡ true) where
   not_entered : word i entered_at ≡ 0
   not_entered = unused-at i recovery_at sealed_at entered_at none-added (omega arith) (omega arith)
 
-  pub idle-whole : length i ≡ record_words
-  idle-whole = (is-marked i mark).long
+  pub idle_whole : length i ≡ record_words
+  idle_whole = (is-marked i mark).long
 
   no-command : word i command_at ≡ 0
   no-command = unused-at i command_at dyb_at command_at none (omega arith) (omega arith)

@@ -3,8 +3,7 @@ use Prim.Native.Nat.{ℕ}
 use mathlib.Core.Path.{◌≡◌, refl, ap, subst}
 use mathlib.Core.Bool.{true}
 use mathlib.Core.List.{List}
-use lib.ListN.{length, length-set}
-use Rattle.blocks.specs.declared.Blocks.{Blocks}
+use lib.ListN.{length}
 use Rattle.meter.specs.declared.Meter.{Meter}
 use Rattle.protection.specs.declared.Protection.{Protection}
 use Rattle.plain.specs.declared.Operation.{Operation}
@@ -20,25 +19,6 @@ use Rattle.layout.specs.Stored.{with_meter, with_command, with_blocks, with_eras
 use Rattle.layout.proofs.Words.{section-whole}
 use Rattle.layout.proofs.Canonical.{canonical}
 
--- ---- no length changes
-
-module _ (i : List ℕ) where
-  pub long-meter : (m : Meter) → length (with_meter i m) ≡ length i
-  unfolding with_meter
-  long-meter m = simp length-set
-
-  pub long-command : (c : Command) → length (with_command i c) ≡ length i
-  unfolding with_command
-  long-command c = simp length-set
-
-  pub long-operation : (o : Operation) → length (with_operation i o) ≡ length i
-  unfolding with_operation with_erase with_blocks with_program
-  long-operation o = simp length-set
-
-  pub long-blocks : (n : ℕ) (s : Blocks) → length (with_blocks i n s) ≡ length i
-  unfolding with_blocks
-  long-blocks n s = simp length-set
-
 -- ---- over words that stand for a record
 
 -- an operation's parts with the toggles of another's
@@ -51,35 +31,35 @@ module _ (i : List ℕ) (well : well_formed i ≡ true) where
   over : (store : List ℕ → List ℕ) (r : Device) → store (image_of (device_of i)) ≡ image_of r → store i ≡ image_of r
   over store r e = subst (λ (z : List ℕ). store z ≡ image_of r) (canonical i well) e
 
-  pub stored-meter : (m : Meter) → with_meter i m ≡ image_of (device m (device_of i).command (device_of i).operation (device_of i).bits)
+  pub stored_meter : (m : Meter) → with_meter i m ≡ image_of (device m (device_of i).command (device_of i).operation (device_of i).bits)
   unfolding image_of with_meter
-  stored-meter m = over (λ z. with_meter z m) (device m (device_of i).command (device_of i).operation (device_of i).bits) refl
+  stored_meter m = over (λ z. with_meter z m) (device m (device_of i).command (device_of i).operation (device_of i).bits) refl
 
-  pub stored-command : (c : Command) → with_command i c ≡ image_of (device (device_of i).meter c (device_of i).operation (device_of i).bits)
+  pub stored_command : (c : Command) → with_command i c ≡ image_of (device (device_of i).meter c (device_of i).operation (device_of i).bits)
   unfolding image_of with_command
-  stored-command c = over (λ z. with_command z c) (device (device_of i).meter c (device_of i).operation (device_of i).bits) refl
+  stored_command c = over (λ z. with_command z c) (device (device_of i).meter c (device_of i).operation (device_of i).bits) refl
 
   -- what a read may change,
-  pub stored-toggles : (o : Operation) → retoggled (operation_parts (device_of i).operation) (operation_parts o) ≡ operation_parts o
+  pub stored_toggles : (o : Operation) → retoggled (operation_parts (device_of i).operation) (operation_parts o) ≡ operation_parts o
       → with_toggles i o ≡ image_of (device (device_of i).meter (device_of i).command o (device_of i).bits)
   unfolding image_of with_toggles
-  stored-toggles o e =
+  stored_toggles o e =
       over (λ z. with_toggles z o) (device (device_of i).meter (device_of i).command o (device_of i).bits)
       (ap (λ (x : OperationParts). sections (device_of i).meter (command_words (device_of i).command) x (device_of i).bits) e)
 
   -- a wait,
-  pub stored-passed : (m : Meter) (o : Operation) → with_operation (with_meter i m) o ≡ image_of (device m (device_of i).command o (device_of i).bits)
+  pub stored_passed : (m : Meter) (o : Operation) → with_operation (with_meter i m) o ≡ image_of (device m (device_of i).command o (device_of i).bits)
   unfolding image_of with_meter with_operation with_erase with_blocks with_program
-  stored-passed m o = over (λ z. with_operation (with_meter z m) o) (device m (device_of i).command o (device_of i).bits) refl
+  stored_passed m o = over (λ z. with_operation (with_meter z m) o) (device m (device_of i).command o (device_of i).bits) refl
 
   -- a write that starts an operation, or one that protects,
-  pub stored-started : (c : Command) (o : Operation) → with_operation (with_command i c) o ≡ image_of (device (device_of i).meter c o (device_of i).bits)
+  pub stored_started : (c : Command) (o : Operation) → with_operation (with_command i c) o ≡ image_of (device (device_of i).meter c o (device_of i).bits)
   unfolding image_of with_command with_operation with_erase with_blocks with_program
-  stored-started c o = over (λ z. with_operation (with_command z c) o) (device (device_of i).meter c o (device_of i).bits) refl
+  stored_started c o = over (λ z. with_operation (with_command z c) o) (device (device_of i).meter c o (device_of i).bits) refl
 
-  pub stored-protected : (c : Command) (b : Protection) → with_bits (with_command i c) b ≡ image_of (device (device_of i).meter c (device_of i).operation b)
+  pub stored_protected : (c : Command) (b : Protection) → with_bits (with_command i c) b ≡ image_of (device (device_of i).meter c (device_of i).operation b)
   unfolding image_of with_command with_bits with_blocks
-  stored-protected c b = over (λ z. with_bits (with_command z c) b) (device (device_of i).meter c (device_of i).operation b) refl
+  stored_protected c b = over (λ z. with_bits (with_command z c) b) (device (device_of i).meter c (device_of i).operation b) refl
 
   -- and a cut
   pub stored_cut : (c : Command) (o : Operation) (b : Protection) → with_bits (with_operation (with_command i c) o) b ≡ image_of (device (device_of i).meter c o b)

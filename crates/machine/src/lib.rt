@@ -1,5 +1,6 @@
 // The device: one bus read, bus write, wait or power cut at a time, over cells and one-time words that the caller lends. Every
-// record, address, word, wait and lent length is answered; the caller need have checked nothing.
+// record, address, word, wait and lent length is answered; the caller need have checked nothing. Cells and one-time words stay two
+// arguments here and below: C lends them so, and the statements of audit/specs (`Performed`, `Called`) speak of these calls.
 #![tactic(auto)]
 
 ghost use Rattle.std.specs.Prelude.{◌≡◌};
@@ -10,13 +11,10 @@ ghost use Rattle.plain.specs.Machine.{read_event, write_event, wait_event, cut_e
 ghost use Rattle.judged.specs.Asked.{exposed_now, reads_cells};
 ghost use Rattle.judged.specs.Foreseen.{end_now, change_now, debris_now};
 
-use access::Sight;
 use cutting::Exposed;
-use elapsed::Lapse;
 use geometry::Part;
-use judged::Figure;
 use meter::Meter;
-use plain::{Answer, Array, Device, Entry, Operation, Refusal};
+use plain::{Answer, Array, Device, Operation, Refusal};
 use remaining::Change;
 
 // "A fresh device has clock 0, charge 0, no operation, no protection, any cells."
@@ -32,16 +30,13 @@ pub fn is_sound(part: Part, device: Device) -> bool
     soundness::is_sound(part, device)
 }
 
+#[tactic(auto, unfolding(access::specs::Sights::sighted))]
 pub fn read(part: Part, device: Device, cells: &[u16], otp: &[u16], address: usize) -> Answer
     ensures { result ≡ (read_event part device (lent cells.now otp.now) address).answer }
 {
-    let sight = access::read(part, device, cells, otp, address);
-    match sight {
-        Sight::Refused(refusal) => answers::refused(refusal, device),
-        Sight::Shown(seen) => {
-            let operation = seen.operation;
-            answers::done(seen.word, moved(device, device.meter, operation))
-        }
+    match access::read(part, device, cells, otp, address) {
+        Err(refusal) => answers::refused(refusal, device),
+        Ok(seen) => answers::done(seen.word, moved(device, device.meter, seen.operation)),
     }
 }
 
@@ -60,6 +55,7 @@ pub fn write(
     afterwards::effected(device, effect)
 }
 
+#[tactic(auto, unfolding(elapsed::specs::Lapses::lapsed))]
 pub fn wait(
     part: Part,
     device: Device,
@@ -71,25 +67,21 @@ pub fn wait(
     ensures cells_after { cells.new ≡ (wait_event part device (lent cells.old otp.old) microseconds).lent.cells }
     ensures otp_after { otp.new ≡ (wait_event part device (lent cells.old otp.old) microseconds).lent.otp }
 {
-    let lapse = elapsed::wait(part, device, cells, otp, microseconds);
-    match lapse {
-        Lapse::Refused(refusal) => answers::refused(refusal, device),
-        Lapse::Passed(after) => {
-            let operation = after.operation;
-            answers::done(0, moved(device, after.meter, operation))
-        }
+    match elapsed::wait(part, device, cells, otp, microseconds) {
+        Err(refusal) => answers::refused(refusal, device),
+        Ok(after) => answers::done(0, moved(device, after.meter, after.operation)),
     }
 }
 
+#[tactic(auto, unfolding(elapsed::specs::Lapses::cut_by))]
 pub fn cut(part: Part, device: Device, cells: &mut [u16], otp: &mut [u16], debris: &[u16]) -> Answer
     ensures value { result ≡ (cut_event part device (lent cells.old otp.old) debris.now).answer }
     ensures cells_after { cells.new ≡ (cut_event part device (lent cells.old otp.old) debris.now).lent.cells }
     ensures otp_after { otp.new ≡ (cut_event part device (lent cells.old otp.old) debris.now).lent.otp }
 {
-    let entry = elapsed::cut(part, device, cells, otp, debris);
-    match entry {
-        Entry::Barred(refusal) => answers::refused(refusal, device),
-        Entry::Admitted => answers::done(0, answers::cut_device(device.meter, device.bits)),
+    match elapsed::cut(part, device, cells, otp, debris) {
+        Err(refusal) => answers::refused(refusal, device),
+        Ok(()) => answers::done(0, answers::cut_device(device.meter, device.bits)),
     }
 }
 
@@ -111,8 +103,7 @@ pub fn range_refusal(
 pub fn range_array(device: Device, first: usize) -> Array
     ensures { result ≡ range_array device.operation first }
 {
-    let operation = device.operation;
-    ranging::array(operation, first)
+    ranging::array(device.operation, first)
 }
 
 pub fn range<'a>(
@@ -132,13 +123,10 @@ pub fn range<'a>(
 fn moved(from: Device, meter: Meter, operation: Operation) -> Device
     ensures { result ≡ device meter from.command operation from.bits }
 {
-    let command = from.command;
-    let bits = from.bits;
     Device {
-        meter: meter,
-        command: command,
-        operation: operation,
-        bits: bits,
+        meter,
+        operation,
+        ..from
     }
 }
 
@@ -157,7 +145,7 @@ pub fn reads_cells(part: Part, device: Device, bank: usize) -> bool
 }
 
 // How many microseconds until nothing runs any more if nobody writes; unknown of a record that is not sound.
-pub fn until_end(part: Part, device: Device) -> Figure
+pub fn until_end(part: Part, device: Device) -> Option<u64>
     ensures { result ≡ end_now part device }
 {
     judged::foreseen::until_end(part, device)
@@ -171,7 +159,7 @@ pub fn until_change(part: Part, device: Device) -> Change
 }
 
 // How many words of debris a cut would need if it came now; unknown of a record that is not sound.
-pub fn debris_needed(part: Part, device: Device) -> Figure
+pub fn debris_needed(part: Part, device: Device) -> Option<u64>
     ensures { result ≡ debris_now part device }
 {
     judged::foreseen::debris_needed(part, device)

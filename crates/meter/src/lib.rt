@@ -15,8 +15,8 @@ pub fn add_to(m: &mut Meter, microseconds: u64, picocoulombs: u64)
     requires { (m.old.clock + microseconds < 2 ^ 64) × (m.old.charge + picocoulombs < 2 ^ 64) }
     ensures { m.new ≡ metered m.old microseconds picocoulombs }
 {
-    m.clock = m.clock + microseconds;
-    m.charge = m.charge + picocoulombs;
+    m.clock += microseconds;
+    m.charge += picocoulombs;
 }
 
 // The same on plain values: a caller of this one borrows nothing.

@@ -1,7 +1,6 @@
 -- The meter, the operation and what is lent are what n microseconds make of them: how that is shown.
 use Prim.Native.Nat.{ℕ, ◌*◌}
 use mathlib.Core.Path.{◌≡◌, sym, ap, ◌∙◌}
-use mathlib.Core.Bool.{true}
 use Rattle.geometry.specs.declared.Part.{Part}
 use Rattle.meter.specs.declared.Meter.{Meter}
 use Rattle.meter.specs.Meter.{metered}
@@ -11,7 +10,7 @@ use Rattle.plain.specs.Lent.{Lent}
 use Rattle.plain.specs.Time.{Moment, moment, ticks}
 use Rattle.plain.proofs.Ticks.{Still, still}
 use Rattle.moments.specs.declared.Moved.{Moved}
-use Rattle.moments.specs.Moments.{moved, MovesAlone, Passable}
+use Rattle.moments.specs.Moments.{moved}
 
 pub record Passed (p : Part) (n : ℕ) (from : Moment) (r : Moved) (l : Lent) : Type 0 where
   pub result : r ≡ moved (ticks p n from)
@@ -29,15 +28,7 @@ instead p n k from x r l e d =
       exit = (d.exit.0 ∙ ap (λ (m : Moment). m.lent.cells) e, d.exit.1 ∙ ap (λ (m : Moment). m.lent.otp) e);
     }
 
--- what is lent stays as it is
-pub alone-passed : (p : Part) (m : Meter) (o : Operation) (l : Lent) (n : ℕ) (r : Moved) → MovesAlone p n m o r → Passed p n (moment m o l) r l
-alone-passed p m o l n r f = passed p n (moment m o l) (moment r.meter r.operation l) (f l)
-
 -- nothing runs
 pub still-passed : (p : Part) (m : Meter) (o : Operation) (l : Lent) (n : ℕ) → Still p o (standby_current p)
     → Passed p n (moment m o l) (moved (moment (metered m n (n * standby_current p)) o l)) l
 still-passed p m o l n s = passed p n (moment m o l) (moment (metered m n (n * standby_current p)) o l) (still p o (standby_current p) s n m l)
-
--- the operation as a match tells it
-pub passable-as : (p : Part) (m : Meter) (o x : Operation) (l : Lent) (n : ℕ) → o ≡ x → Passable p m o l n → Passable p m x l n
-passable-as p m o x l n e f = record { room = f.room; whole = f.whole; bits = f.bits; sound = rw e at f.sound }

@@ -1,11 +1,12 @@
 -- Room on the meter: for a part of the wait, and for the rest of it after a part.
 use Prim.Native.Nat.{ℕ, ◌+◌, ◌-◌, ◌*◌, ◌^◌, ◌<◌, ◌≤◌}
+use native.Mathlib.Nat.{mul-le-mul}
 use native.Mathlib.Omega.{arith}
 use Rattle.geometry.specs.declared.Part.{Part}
 use Rattle.meter.specs.declared.Meter.{Meter}
 use Rattle.meter.specs.Meter.{metered}
 use Rattle.plain.specs.Figures.{running_current, standby_current}
-use Rattle.plain.proofs.FigureLaws.{clock-fits, running-fits, standby-fits, running-sound, standby-sound}
+use Rattle.plain.proofs.FigureLaws.{clock-fits, running-fits, running-sound, standby-sound}
 use Rattle.moments.specs.Moments.{Room}
 
 module _ (p : Part) (m : Meter) (n k : ℕ) (h : k ≤ n) (r : Room p m n) where
@@ -26,8 +27,8 @@ abbrev top : ℕ
 top = 2 ^ 64
 
 module _ (p : Part) (m : Meter) (n : ℕ) (r : Room p m n) where
-  pub ran-fits : (m.clock + n < top) × (m.charge + n * running_current p < top)
-  ran-fits = (clock-fits p m.clock m.charge n r.clock r.charge, running-fits p m.clock m.charge n r.clock r.charge)
-
-  pub stood-by-fits : (m.clock + n < top) × (m.charge + n * standby_current p < top)
-  stood-by-fits = (clock-fits p m.clock m.charge n r.clock r.charge, standby-fits p m.clock m.charge n r.clock r.charge)
+  -- n microseconds draw no more than they do at the running current
+  pub sums-fit : (rate : ℕ) → rate ≤ running_current p → (m.clock + n < top) × (m.charge + n * rate < top)
+  sums-fit rate h =
+      let most : n * rate ≤ n * running_current p = mul-le-mul (omega arith) h in
+      (clock-fits p m.clock m.charge n r.clock r.charge, omega (arith, most, running-fits p m.clock m.charge n r.clock r.charge))

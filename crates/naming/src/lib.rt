@@ -15,6 +15,7 @@ use suspensions::{erase_setup, is_suspended, program_is_suspended, unless};
 
 // Both unlock writes, then the third at 555H. "SUSPENDED comes at the third write for 80H, 48H, 78H, 60H, for A0H in a
 // suspended program"; document 02, request 4: "Enter in suspension is SUSPENDED", by 88H.
+#[tactic(auto, unfolding(plain::specs::Commands::after_unlocked))]
 pub fn after_unlocked(
     part: Part,
     bits: Protection,

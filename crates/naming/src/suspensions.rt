@@ -11,26 +11,21 @@ ghost use Rattle.plain.specs.declared.Refusal.TheVariants.{Sequence};
 use operations::is_entered;
 use plain::{Command, Cycle, Effect, Refusal, Suspension};
 
+#[tactic(auto, unfolding(plain::specs::Commands::is_suspended))]
 pub fn is_suspended(suspension: Suspension) -> bool
     ensures { result ≡ is_suspended suspension }
 {
-    match suspension {
-        Suspension::Unsuspended => false,
-        Suspension::OfProgram(_) => true,
-        Suspension::OfErase(_) => true,
-        Suspension::Entered => false,
-    }
+    matches!(
+        suspension,
+        Suspension::OfProgram(_) | Suspension::OfErase(_)
+    )
 }
 
+#[tactic(auto, unfolding(plain::specs::Commands::program_is_suspended))]
 pub fn program_is_suspended(suspension: Suspension) -> bool
     ensures { result ≡ program_is_suspended suspension }
 {
-    match suspension {
-        Suspension::Unsuspended => false,
-        Suspension::OfProgram(_) => true,
-        Suspension::OfErase(_) => false,
-        Suspension::Entered => false,
-    }
+    matches!(suspension, Suspension::OfProgram(_))
 }
 
 // "10 SUSPENDED: a command not allowed in suspension"

@@ -5,6 +5,7 @@ ghost use Rattle.layout.specs.Commands.{beside, cycle_words, reading_words, comm
 use layout::CommandWords;
 use plain::{Command, Cycle, Reading};
 
+#[tactic(auto, unfolding(layout::specs::Commands::command_words))]
 pub fn words_of(command: Command) -> CommandWords
     ensures { result ≡ command_words command }
 {
@@ -15,6 +16,7 @@ pub fn words_of(command: Command) -> CommandWords
     }
 }
 
+#[tactic(auto, unfolding(layout::specs::Commands::cycle_words))]
 fn cycle_words(cycle: Cycle) -> CommandWords
     ensures { result ≡ cycle_words cycle }
 {
@@ -33,6 +35,7 @@ fn cycle_words(cycle: Cycle) -> CommandWords
     }
 }
 
+#[tactic(auto, unfolding(layout::specs::Commands::reading_words))]
 fn reading_words(reading: Reading) -> CommandWords
     ensures { result ≡ reading_words reading }
 {
@@ -47,11 +50,12 @@ fn beside(number: u64, place: usize) -> CommandWords
     ensures { result ≡ beside number place }
 {
     CommandWords {
-        number: number,
+        number,
         place: place as u64,
     }
 }
 
+#[tactic(auto, unfolding(layout::specs::Commands::command_of))]
 pub fn command_of(number: u64, place: u64) -> Command
     ensures { result ≡ command_of (beside number place) }
 {
@@ -68,6 +72,7 @@ pub fn command_of(number: u64, place: u64) -> Command
 }
 
 // Of a number past 14, which no record has, it tells the last.
+#[tactic(auto, unfolding(layout::specs::Commands::cycle_of))]
 fn cycle_of(number: u64, place: u64) -> Cycle
     ensures { result ≡ cycle_of (beside number place) }
 {

@@ -10,6 +10,7 @@ use blocks::Blocks;
 use layout::OperationParts;
 use plain::{Array, Erase, Inside, Operation, Program, Recovery, SuspendedErase, Written};
 
+#[tactic(auto, unfolding(layout::specs::Operations::operation_parts))]
 pub fn parts_of(operation: Operation) -> OperationParts
     ensures { result ≡ operation_parts operation }
 {
@@ -19,20 +20,11 @@ pub fn parts_of(operation: Operation) -> OperationParts
         Operation::ProgramSuspended(program) => parts(2, no_erase(), program),
         Operation::Window(erase) => parts(3, erase, no_program()),
         Operation::Erasing(erase) => parts(4, erase, no_program()),
-        Operation::Recovering(recovery) => {
-            let erase = recovery.erase;
-            OperationParts {
-                number: 4,
-                erase: erase,
-                program: no_program(),
-                recovery: recovery.left,
-                entered: false,
-            }
-        }
-        Operation::EraseSuspended(suspended) => {
-            let inside = suspended.inside;
-            suspended_parts(suspended.erase, inside)
-        }
+        Operation::Recovering(recovery) => OperationParts {
+            recovery: recovery.left,
+            ..parts(4, recovery.erase, no_program())
+        },
+        Operation::EraseSuspended(suspended) => suspended_parts(suspended.erase, suspended.inside),
         Operation::ChipErasing(erase) => parts(7, erase, no_program()),
         Operation::InOneTime => entered_parts(0, no_program()),
         Operation::OneTimeProgramming(program) => entered_parts(1, program),
@@ -40,12 +32,14 @@ pub fn parts_of(operation: Operation) -> OperationParts
 }
 
 // Of a device where nothing runs, is suspended or is entered: a cut leaves it so.
+#[tactic(auto, unfolding(layout::specs::Operations::operation_parts))]
 pub fn idle_parts() -> OperationParts
     ensures { result ≡ operation_parts Idle }
 {
     parts(0, no_erase(), no_program())
 }
 
+#[tactic(auto, unfolding(layout::specs::Operations::suspended_parts))]
 fn suspended_parts(erase: Erase, inside: Inside) -> OperationParts
     ensures { result ≡ suspended_parts erase inside }
 {
@@ -59,9 +53,9 @@ fn parts(number: u64, erase: Erase, program: Program) -> OperationParts
     ensures { result ≡ parts number erase program }
 {
     OperationParts {
-        number: number,
-        erase: erase,
-        program: program,
+        number,
+        erase,
+        program,
         recovery: 0,
         entered: false,
     }
@@ -72,11 +66,8 @@ fn entered_parts(number: u64, program: Program) -> OperationParts
     ensures { result ≡ entered_parts number program }
 {
     OperationParts {
-        number: number,
-        erase: no_erase(),
-        program: program,
-        recovery: 0,
         entered: true,
+        ..parts(number, no_erase(), program)
     }
 }
 
@@ -127,6 +118,7 @@ pub fn operation_inside(number: u64, program: Program) -> Operation
 }
 
 // Outside, a program by itself or nothing.
+#[tactic(auto, unfolding(layout::specs::Operations::operation_numbered))]
 pub fn program_alone(number: u64, program: Program) -> Operation
     requires { number < 3 }
     ensures { (e : Erase) → result ≡ operation_numbered number e program }
@@ -139,13 +131,14 @@ pub fn program_alone(number: u64, program: Program) -> Operation
 }
 
 // Outside, an erase by itself: where time is left of a recovery, that. Of a number past 7, which no record has, nothing runs.
+#[tactic(auto, unfolding(layout::specs::Operations::operation_numbered, layout::specs::Operations::operation_outside,))]
 pub fn erase_alone(number: u64, erase: Erase, recovery: u64) -> Operation
     requires { recovery ≡ 0 → (3 ≤ number) × (number ≡ 6 → ⊥) }
     ensures { (q : Program) → result ≡ operation_outside number erase q recovery }
 {
     if recovery != 0 {
         return Operation::Recovering(Recovery {
-            erase: erase,
+            erase,
             left: recovery,
         });
     }
@@ -153,7 +146,7 @@ pub fn erase_alone(number: u64, erase: Erase, recovery: u64) -> Operation
         3 => Operation::Window(erase),
         4 => Operation::Erasing(erase),
         5 => Operation::EraseSuspended(SuspendedErase {
-            erase: erase,
+            erase,
             inside: Inside::Nothing,
         }),
         7 => Operation::ChipErasing(erase),
@@ -162,11 +155,12 @@ pub fn erase_alone(number: u64, erase: Erase, recovery: u64) -> Operation
 }
 
 // Outside, a program inside a suspended erase.
+#[tactic(auto, unfolding(layout::specs::Operations::operation_numbered))]
 pub fn program_and_erase(erase: Erase, program: Program) -> Operation
     ensures { result ≡ operation_numbered 6 erase program }
 {
     Operation::EraseSuspended(SuspendedErase {
-        erase: erase,
+        erase,
         inside: Inside::Runs(program),
     })
 }

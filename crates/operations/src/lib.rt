@@ -8,27 +8,25 @@ ghost use Rattle.plain.specs.Operations.{running_inside, running_of, suspension_
 
 use plain::{Array, Inside, Operation, Running, Suspension, figures};
 
+#[tactic(auto, unfolding(plain::specs::Operations::running_of))]
 pub fn running_of(operation: Operation) -> Running
     ensures { result ≡ running_of operation }
 {
     match operation {
-        Operation::Idle => Running::Still,
-        Operation::Programming(program) => Running::Programs(program),
-        Operation::ProgramSuspended(_) => Running::Still,
+        Operation::Idle | Operation::ProgramSuspended(_) | Operation::InOneTime => Running::Still,
+        Operation::Programming(program) | Operation::OneTimeProgramming(program) => {
+            Running::Programs(program)
+        }
         Operation::Window(erase) => Running::Waits(erase),
         Operation::Erasing(erase) => Running::Erases(erase),
         Operation::Recovering(recovery) => Running::Recovers(recovery),
-        Operation::EraseSuspended(suspended) => {
-            let inside = suspended.inside;
-            running_inside(inside)
-        }
+        Operation::EraseSuspended(suspended) => running_inside(suspended.inside),
         Operation::ChipErasing(erase) => Running::ErasesChip(erase),
-        Operation::InOneTime => Running::Still,
-        Operation::OneTimeProgramming(program) => Running::Programs(program),
     }
 }
 
 // "a second operation is only a program inside a suspended erase, and that program runs"
+#[tactic(auto, unfolding(plain::specs::Operations::running_inside))]
 fn running_inside(inside: Inside) -> Running
     ensures { result ≡ running_inside inside }
 {
@@ -42,90 +40,55 @@ fn running_inside(inside: Inside) -> Running
 pub fn is_idle(operation: Operation) -> bool
     ensures { result ≡ true → operation ≡ Idle }
 {
-    match operation {
-        Operation::Idle => true,
-        Operation::Programming(_) => false,
-        Operation::ProgramSuspended(_) => false,
-        Operation::Window(_) => false,
-        Operation::Erasing(_) => false,
-        Operation::Recovering(_) => false,
-        Operation::EraseSuspended(_) => false,
-        Operation::ChipErasing(_) => false,
-        Operation::InOneTime => false,
-        Operation::OneTimeProgramming(_) => false,
-    }
+    matches!(operation, Operation::Idle)
 }
 
 // What runs, as a yes or no, which most events ask first: it copies nothing.
+#[tactic(auto, unfolding(plain::specs::Operations::running_of, plain::specs::Operations::running_inside, plain::specs::Sound::is_still))]
 pub fn is_still(operation: Operation) -> bool
     ensures { result ≡ is_still (running_of operation) }
 {
     match operation {
-        Operation::Idle => true,
-        Operation::Programming(_) => false,
-        Operation::ProgramSuspended(_) => true,
-        Operation::Window(_) => false,
-        Operation::Erasing(_) => false,
-        Operation::Recovering(_) => false,
-        Operation::EraseSuspended(suspended) => {
-            let inside = suspended.inside;
-            is_nothing(inside)
-        }
-        Operation::ChipErasing(_) => false,
-        Operation::InOneTime => true,
-        Operation::OneTimeProgramming(_) => false,
-    }
-}
-
-fn is_nothing(inside: Inside) -> bool
-    ensures { result ≡ is_still (running_inside inside) }
-{
-    match inside {
-        Inside::Nothing => true,
-        Inside::Runs(_) => false,
+        Operation::Idle | Operation::ProgramSuspended(_) | Operation::InOneTime => true,
+        Operation::EraseSuspended(suspended) => matches!(suspended.inside, Inside::Nothing),
+        Operation::Programming(_)
+        | Operation::Window(_)
+        | Operation::Erasing(_)
+        | Operation::Recovering(_)
+        | Operation::ChipErasing(_)
+        | Operation::OneTimeProgramming(_) => false,
     }
 }
 
 // "only a block erase or a program may be suspended"; or the one-time block is entered
+#[tactic(auto, unfolding(plain::specs::Operations::suspension_of))]
 pub fn suspension_of(operation: Operation) -> Suspension
     ensures { result ≡ suspension_of operation }
 {
     match operation {
-        Operation::Idle => Suspension::Unsuspended,
-        Operation::Programming(_) => Suspension::Unsuspended,
         Operation::ProgramSuspended(program) => Suspension::OfProgram(program),
-        Operation::Window(_) => Suspension::Unsuspended,
-        Operation::Erasing(_) => Suspension::Unsuspended,
-        Operation::Recovering(_) => Suspension::Unsuspended,
-        Operation::EraseSuspended(suspended) => {
-            let erase = suspended.erase;
-            Suspension::OfErase(erase)
-        }
-        Operation::ChipErasing(_) => Suspension::Unsuspended,
-        Operation::InOneTime => Suspension::Entered,
-        Operation::OneTimeProgramming(_) => Suspension::Entered,
+        Operation::EraseSuspended(suspended) => Suspension::OfErase(suspended.erase),
+        Operation::InOneTime | Operation::OneTimeProgramming(_) => Suspension::Entered,
+        Operation::Idle
+        | Operation::Programming(_)
+        | Operation::Window(_)
+        | Operation::Erasing(_)
+        | Operation::Recovering(_)
+        | Operation::ChipErasing(_) => Suspension::Unsuspended,
     }
 }
 
 pub fn is_entered(suspension: Suspension) -> bool
     ensures { result ≡ is_entered suspension }
 {
-    match suspension {
-        Suspension::Unsuspended => false,
-        Suspension::OfProgram(_) => false,
-        Suspension::OfErase(_) => false,
-        Suspension::Entered => true,
-    }
+    matches!(suspension, Suspension::Entered)
 }
 
 // "the one-time words or .. the main array, whichever its first address selects"
 pub fn selected(suspension: Suspension, address: usize) -> Array
     ensures { result ≡ selected suspension address }
 {
-    if figures::OTP_WORDS <= address {
-        return Array::Main;
-    }
-    if is_entered(suspension) {
+    if is_entered(suspension) && address < figures::OTP_WORDS {
         return Array::OneTime;
     }
     Array::Main

@@ -1,19 +1,17 @@
 -- What a C program is told of what is to come; `none` where there is nothing to tell.
+use Rattle.std.specs.Prelude.{Option}
 use Rattle.std.specs.Prelude.{ℕ, List}
 use Rattle.std.specs.Prelude.{if◌then◌else◌}
 use Rattle.layout.specs.Image.{device_of}
 use Rattle.remaining.specs.declared.Change.{Change}
 use Rattle.remaining.specs.declared.Change.TheVariants.{Never, WindowEnds, RecoveryEnds, WordDone, BlockDone}
-use Rattle.judged.specs.declared.foreseen.Figure.{Figure}
-use Rattle.judged.specs.declared.foreseen.Figure.TheVariants.{Unknown, Known}
 use Rattle.judged.specs.Foreseen.{end_now, change_now, debris_now}
-use Rattle.face.specs.Face.{part_named, stands, none, array_number}
+use Rattle.face.specs.Face.{part_named, stands, none, number_or_none, array_number}
 
 -- ---- as numbers
 
-unfoldable pub figure_number : Figure → ℕ
-figure_number Unknown = none
-figure_number (Known n) = n
+abbrev pub figure_number : Option ℕ → ℕ
+figure_number = number_or_none
 
 -- when the device changes, and the block, or the word and its array, that is finished then
 unfoldable pub change_time : Change → ℕ

@@ -1,5 +1,6 @@
 -- Words alike except for the cells of one bank: all that changes what is lent, a microsecond or a cut, leaves them so. And what a write asks of
 -- them.
+use Rattle.std.specs.Prelude.{Option, None, Some}
 use Prim.Native.Nat.{ℕ, zero, suc, ◌+◌, ◌≤◌}
 use mathlib.Core.Path.{◌≡◌, refl, sym, ap, ◌∙◌}
 use mathlib.Core.Bool.{Bool}
@@ -23,10 +24,6 @@ use Rattle.plain.specs.declared.Suspension.TheVariants.{Unsuspended, OfProgram, 
 use Rattle.plain.specs.declared.Command.{Command}
 use Rattle.plain.specs.declared.Command.TheVariants.{Ground, Entering, Reads}
 use Rattle.plain.specs.declared.Cycle.TheVariants.{Unlock, Unlocked, ProgramData, EraseSetup, EraseUnlock, EraseUnlocked, DybData, PpbSetup, PpbSetting, PpbClearing, OtpLocking}
-use Rattle.plain.specs.declared.Place.{Place}
-use Rattle.plain.specs.declared.Place.TheVariants.{Nowhere, At}
-use Rattle.plain.specs.declared.BegunProgram.{BegunProgram}
-use Rattle.plain.specs.declared.BegunProgram.TheVariants.{NoProgram, Writes}
 use Rattle.plain.specs.declared.Running.{Running}
 use Rattle.plain.specs.declared.Running.TheVariants.{Still, Programs, Waits, Erases, Recovers, ErasesChip}
 use Rattle.plain.specs.Banks.{AlikeBut}
@@ -90,17 +87,17 @@ module _ (p : Part) (bank : ℕ) where
 
     -- ---- a cut
 
-    block-alike : (place : Place) (debris : List ℕ) → block_debris p place ≤ length debris → Alike (block_cut p place debris l) (block_cut p place debris m)
+    block-alike : (place : Option ℕ) (debris : List ℕ) → block_debris p place ≤ length debris → Alike (block_cut p place debris l) (block_cut p place debris m)
     unfolding block_debris block_cut
-    block-alike Nowhere debris h = a
-    block-alike (At b) debris h =
+    block-alike None debris h = a
+    block-alike (Some b) debris h =
         with-alike Main l m _ _ a (length-littered l.cells (first_of p b) (size_of p b) debris (fits b) h) (length-littered m.cells (first_of p b) (size_of p b) debris (fits-other b) h)
         (λ x k. littered-alike l.cells m.cells (a.sizes Main) x k (first_of p b) (size_of p b) (fits b) debris h)
 
-  program-cut-alike : (w : BegunProgram) (debris : List ℕ) (l m : Lent) → Alike l m → Alike (program_cut w debris l) (program_cut w debris m)
+  program-cut-alike : (w : Option Written) (debris : List ℕ) (l m : Lent) → Alike l m → Alike (program_cut w debris l) (program_cut w debris m)
   unfolding program_cut cut_off
-  program-cut-alike NoProgram debris l m a = a
-  program-cut-alike (Writes d) debris l m a =
+  program-cut-alike None debris l m a = a
+  program-cut-alike (Some d) debris l m a =
       let y = d.array in
       let rest = debris_for d debris d.at in
       with-alike y l m _ _ a (length-cut_short (array_of y l) d.at d.word rest) (length-cut_short (array_of y m) d.at d.word rest)

@@ -1,4 +1,5 @@
 -- By soundness what a begun program writes lies in its array, and is neither protected nor locked.
+use Rattle.std.specs.Prelude.{Option, Some}
 use Prim.Native.Nat.{◌-◌, ◌<◌}
 use mathlib.Core.Path.{◌≡◌, refl}
 use mathlib.Core.Bool.{true, false}
@@ -14,8 +15,6 @@ use Rattle.plain.specs.declared.SuspendedErase.{SuspendedErase}
 use Rattle.plain.specs.declared.Operation.{Operation}
 use Rattle.plain.specs.declared.Operation.TheVariants.{Idle, Programming, ProgramSuspended, Window, Erasing, Recovering, EraseSuspended, ChipErasing, InOneTime, OneTimeProgramming}
 use Rattle.plain.specs.declared.Suspension.{Suspension}
-use Rattle.plain.specs.declared.BegunProgram.{BegunProgram}
-use Rattle.plain.specs.declared.BegunProgram.TheVariants.{Writes}
 use Rattle.plain.specs.Figures.{program_time}
 use Rattle.plain.specs.Programs.{lies_in, barred}
 use Rattle.plain.specs.Sound.{operation_sound}
@@ -28,9 +27,9 @@ pub record Begins (p : Part) (q : Program) (d : Written) : Type 0 where
   pub time : 0 < program_time p - q.left
   pub what : q.writes ≡ d
 
-pub begins : (p : Part) (q : Program) (d : Written) → program_begun p q ≡ Writes d → Begins p q d
+pub begins : (p : Part) (q : Program) (d : Written) → program_begun p q ≡ Some d → Begins p q d
 begins p q d =
-    by-test (λ (x : BegunProgram). x ≡ Writes d → Begins p q d) (begun q.left (program_time p))
+    by-test (λ (x : Option Written). x ≡ Some d → Begins p q d) (begun q.left (program_time p))
     (λ t e. record { time = omega (arith, ltb-true q.left (program_time p) t); what = cc }) (λ t e. no_program e)
 
 module _ (p : Part) (bits : Protection) where
@@ -38,15 +37,15 @@ module _ (p : Part) (bits : Protection) where
     pub lies : lies_in p d ≡ true
     pub free : barred p bits d ≡ false
 
-  free_of : (s : Suspension) (q : Program) (d : Written) → ProgramFacts p bits s q → program_begun p q ≡ Writes d → ProgramFree d
+  free_of : (s : Suspension) (q : Program) (d : Written) → ProgramFacts p bits s q → program_begun p q ≡ Some d → ProgramFree d
   free_of s q d f e = rw (← (begins p q d e).what) (record { lies = f.in-part; free = f.free })
 
-  inside-free : (x : SuspendedErase) (i : Inside) → x.inside ≡ i → operation_sound p bits (EraseSuspended x) ≡ true → (d : Written) → begun_inside p i ≡ Writes d → ProgramFree d
+  inside-free : (x : SuspendedErase) (i : Inside) → x.inside ≡ i → operation_sound p bits (EraseSuspended x) ≡ true → (d : Written) → begun_inside p i ≡ Some d → ProgramFree d
   unfolding begun_inside
   inside-free x Nothing t s d e = no_program e
   inside-free x (Runs q) t s d e = free_of _ q d (inside-runs p bits x q s t).program e
 
-  pub program-free : (o : Operation) → operation_sound p bits o ≡ true → (d : Written) → begun_program p o ≡ Writes d → ProgramFree d
+  pub program-free : (o : Operation) → operation_sound p bits o ≡ true → (d : Written) → begun_program p o ≡ Some d → ProgramFree d
   unfolding begun_program
   program-free Idle s d e = no_program e
   program-free (Programming q) s d e = free_of _ q d (programming p bits q s) e

@@ -1,4 +1,5 @@
 -- The four events, answer by answer: what each comes to once the tests on the way are known.
+use Rattle.std.specs.Prelude.{Err}
 use Prim.Native.Nat.{ℕ, ◌+◌, ◌<◌, ◌≤◌}
 use mathlib.Core.Path.{◌≡◌}
 use mathlib.Core.List.{List}
@@ -9,7 +10,6 @@ use Rattle.geometry.specs.Parts.{word_count}
 use Rattle.plain.specs.declared.Refusal.{Refusal}
 use Rattle.plain.specs.declared.Refusal.TheVariants.{Address, Clock, Debris}
 use Rattle.plain.specs.declared.Device.{Device}
-use Rattle.plain.specs.declared.Entry.TheVariants.{Barred}
 use Rattle.plain.specs.Figures.{clock_limit}
 use Rattle.plain.specs.Lent.{Lent}
 use Rattle.plain.specs.Cut.{debris_needed}
@@ -18,7 +18,7 @@ use Rattle.plain.proofs.Ladder.{entry-admitted, ladder-barred, ladder-own, ladde
 
 module _ (p : Part) (r : Device) (l : Lent) where
   module _ (a : ℕ) where
-    pub read-barred : (n : Refusal) → entry p r l ≡ Barred n → read_event p r l a ≡ refused n r l
+    pub read-barred : (n : Refusal) → entry p r l ≡ Err n → read_event p r l a ≡ refused n r l
     unfolding read_event
     read-barred n e = ladder-barred p r l _ Address _ n e
 
@@ -31,7 +31,7 @@ module _ (p : Part) (r : Device) (l : Lent) where
     read-passes f h = ladder-taken p r l _ Address _ (entry-admitted p r l f) (rw (lt-ltb a (word_count p) h))
 
     module _ (w : ℕ) where
-      pub write-barred : (n : Refusal) → entry p r l ≡ Barred n → write_event p r l a w ≡ refused n r l
+      pub write-barred : (n : Refusal) → entry p r l ≡ Err n → write_event p r l a w ≡ refused n r l
       unfolding write_event
       write-barred n e = ladder-barred p r l _ Address _ n e
 
@@ -44,7 +44,7 @@ module _ (p : Part) (r : Device) (l : Lent) where
       write-passes f h = ladder-taken p r l _ Address _ (entry-admitted p r l f) (rw (lt-ltb a (word_count p) h))
 
   module _ (n : ℕ) where
-    pub wait-barred : (x : Refusal) → entry p r l ≡ Barred x → wait_event p r l n ≡ refused x r l
+    pub wait-barred : (x : Refusal) → entry p r l ≡ Err x → wait_event p r l n ≡ refused x r l
     unfolding wait_event
     wait-barred x e = ladder-barred p r l _ Clock _ x e
 
@@ -58,7 +58,7 @@ module _ (p : Part) (r : Device) (l : Lent) where
         ladder-taken p r l _ Clock _ (entry-admitted p r l f) (rw (le-leb (r.meter.clock + n) (clock_limit p) h))
 
   module _ (debris : List ℕ) where
-    pub cut-barred : (n : Refusal) → entry p r l ≡ Barred n → cut_event p r l debris ≡ refused n r l
+    pub cut-barred : (n : Refusal) → entry p r l ≡ Err n → cut_event p r l debris ≡ refused n r l
     unfolding cut_event
     cut-barred n e = ladder-barred p r l _ Debris _ n e
 

@@ -1,4 +1,5 @@
 -- Soundness asked so that it is quick to compute: words of a set that are 0 are passed over, and the lent length is not counted anew.
+use Rattle.std.specs.Prelude.{Result, Ok, Err}
 use Prim.Native.Nat.{ℕ, zero, suc, ◌+◌, ◌*◌, ◌/◌, ◌%◌, ◌<◌}
 use mathlib.Core.Path.{◌≡◌, refl, sym, ◌∙◌}
 use mathlib.Core.Bool.{Bool, true, false, ◌&&◌, ◌||◌, not}
@@ -21,13 +22,12 @@ use Rattle.plain.specs.declared.Operation.{Operation}
 use Rattle.plain.specs.declared.Operation.TheVariants.{Idle, Programming, ProgramSuspended, Window, Erasing, Recovering, EraseSuspended, ChipErasing, InOneTime, OneTimeProgramming}
 use Rattle.plain.specs.declared.Suspension.TheVariants.{Unsuspended, Entered}
 use Rattle.plain.specs.declared.Device.{Device}
-use Rattle.plain.specs.declared.Entry.{Entry}
-use Rattle.plain.specs.declared.Entry.TheVariants.{Admitted, Barred}
 use Rattle.std.specs.Prelude.{if◌then◌else◌}
 use Rattle.plain.specs.Figures.{window_time, erase_time, recovery_time, chip_time}
 use Rattle.plain.specs.Lent.{Lent, is_whole}
 use Rattle.plain.specs.Machine.{entry}
 use Rattle.plain.specs.Sound.{meter_sound, time_sound, program_sound, may_erase, may_chip_erase, only_those, list_sound, chip_list_sound, lowest, inside_sound, operation_sound, command_sound, sound}
+use Rattle.plain.specs.declared.Refusal.{Refusal}
 
 or-false : (a : Bool) → (a || false) ≡ a
 or-false true = refl
@@ -151,11 +151,11 @@ quick-sound p r = rw (quick-stray p r.bits, quick-operation p r.bits r.operation
 
 -- ---- the entry, of cells that are known to be whole or not
 
-unfoldable pub quick_entry : Part → Device → (whole : Bool) → Entry
+unfoldable pub quick_entry : Part → Device → (whole : Bool) → Result Unit Refusal
 quick_entry p r whole =
-    if not (quick_sound p r) then Barred State
-    else if not whole then Barred Cells
-    else Admitted
+    if not (quick_sound p r) then Err State
+    else if not whole then Err Cells
+    else (Ok tt)
 
 pub quick-entry : (p : Part) (r : Device) (l : Lent) → entry p r l ≡ quick_entry p r (is_whole p l)
 unfolding entry quick_entry

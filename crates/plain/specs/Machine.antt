@@ -1,4 +1,5 @@
 -- The plain machine: one event, and a run of them (document 01, "Refusals by number", the order of checks).
+use Rattle.std.specs.Prelude.{Result, Ok, Err}
 use Rattle.std.specs.Prelude.{ℕ, ◌+◌, ◌≡◌, Bool, true, not, ◌&&◌, List, [], ◌∷◌, ltb, leb, eqb, length, drop, take}
 use Rattle.geometry.specs.declared.Part.{Part}
 use Rattle.geometry.specs.Parts.{word_count}
@@ -8,8 +9,6 @@ use Rattle.plain.specs.declared.Refusal.TheVariants.{Done, State, Cells, Address
 use Rattle.plain.specs.declared.Operation.{Operation}
 use Rattle.plain.specs.declared.Device.{Device}
 use Rattle.plain.specs.declared.Answer.{Answer}
-use Rattle.plain.specs.declared.Entry.{Entry}
-use Rattle.plain.specs.declared.Entry.TheVariants.{Admitted, Barred}
 use Rattle.std.specs.Prelude.{if◌then◌else◌}
 use Rattle.plain.specs.Events.{Event, read, write, wait, cut, range, Turn}
 use Rattle.plain.specs.Figures.{clock_limit}
@@ -37,15 +36,15 @@ refused n r l = outcome (answer n 0 r) l
 
 -- ---- the ladder: "Checks run in this order: 1, 2, then 3, 4 or 5 by event"
 
-unfoldable pub entry : Part → Device → Lent → Entry
+unfoldable pub entry : Part → Device → Lent → Result Unit Refusal
 entry p r l =
-    if not (sound p r) then Barred State
-    else if not (is_whole p l) then Barred Cells
-    else Admitted
+    if not (sound p r) then Err State
+    else if not (is_whole p l) then Err Cells
+    else (Ok tt)
 
-unfoldable pub climbed : Entry → Device → Lent → Outcome → Outcome
-climbed Admitted r l taken = taken
-climbed (Barred n) r l taken = refused n r l
+unfoldable pub climbed : Result Unit Refusal → Device → Lent → Outcome → Outcome
+climbed (Ok tt) r l taken = taken
+climbed (Err n) r l taken = refused n r l
 
 -- an event that is refused by its own number where it fails, and is else taken
 unfoldable pub ladder : Part → Device → Lent → (fails : Bool) → (own : Refusal) → (taken : Outcome) → Outcome

@@ -1,4 +1,5 @@
-// The figures of document 01, by part: microseconds, and picocoulombs a microsecond. All code takes them from here.
+// The figures of document 01, by part: microseconds, and picocoulombs a microsecond. All code takes them from here. A function for each, as
+// each has a definition and a line of the paper of its own; one for all, told which, would be no plainer.
 ghost use Rattle.std.specs.Prelude.{◌≡◌};
 ghost use Rattle.plain.specs.Figures.{program_time, window_time, erase_time, recovery_time, chip_time, running_current, standby_current, clock_limit};
 

@@ -7,8 +7,9 @@ use blocks::Blocks;
 use meter::Meter;
 use protection::Protection;
 
-// How an event is answered (document 01, "Refusals by number"). Refusals::number has the paper's numbers.
-#[derive(Clone, Copy)]
+// How an event is answered (document 01, "Refusals by number"). Refusals::number has the paper's numbers. DONE is one of them, and no Ok: the
+// statements (`NoneAnswers12`, `cut-taken` ..) compare answers by name and number, DONE too.
+#[derive(Clone, Copy, PartialEq, Eq)]
 pub enum Refusal {
     Done,
     State,
@@ -27,7 +28,7 @@ pub enum Refusal {
 }
 
 // The two arrays that are lent: the cells, and the one-time words.
-#[derive(Clone, Copy)]
+#[derive(Clone, Copy, PartialEq, Eq)]
 pub enum Array {
     Main,
     OneTime,
@@ -60,7 +61,7 @@ pub struct Erase {
     pub dq2: bool,
 }
 
-// What goes on inside a suspended erase.
+// What goes on inside a suspended erase. No Option: docs/DECISIONS.md, "Forms by place", names a program state enum here.
 #[derive(Clone, Copy)]
 pub enum Inside {
     Nothing,
@@ -119,7 +120,7 @@ pub enum Suspension {
 }
 
 // The command register.
-#[derive(Clone, Copy)]
+#[derive(Clone, Copy, PartialEq, Eq)]
 pub enum Command {
     Ground,
     Entering(Cycle),
@@ -127,7 +128,7 @@ pub enum Command {
 }
 
 // A command that is half entered: the cycle that was taken last.
-#[derive(Clone, Copy)]
+#[derive(Clone, Copy, PartialEq, Eq)]
 pub enum Cycle {
     Unlock,
     Unlocked,
@@ -143,7 +144,7 @@ pub enum Cycle {
 }
 
 // A reading that is on: identity in a bank, 58H, or the status of the customer's lock.
-#[derive(Clone, Copy)]
+#[derive(Clone, Copy, PartialEq, Eq)]
 pub enum Reading {
     Identity(usize),
     Dybs,
@@ -191,30 +192,9 @@ pub struct Seen {
     pub operation: Operation,
 }
 
-// A block, or none.
+// A word of one of the arrays.
 #[derive(Clone, Copy)]
-pub enum Place {
-    Nowhere,
-    At(usize),
-}
-
-// A word of one of the arrays, or none.
-#[derive(Clone, Copy)]
-pub enum Spot {
-    NoWord,
-    In(Array, usize),
-}
-
-// What a begun program writes, which a cut would hit; or that none has begun.
-#[derive(Clone, Copy)]
-pub enum BegunProgram {
-    NoProgram,
-    Writes(Written),
-}
-
-// Whether an event may go on after the checks that all events begin with.
-#[derive(Clone, Copy)]
-pub enum Entry {
-    Admitted,
-    Barred(Refusal),
+pub struct Spot {
+    pub array: Array,
+    pub at: usize,
 }

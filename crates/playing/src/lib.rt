@@ -7,6 +7,7 @@ ghost use Rattle.printing.specs.Put.{Put};
 ghost use Rattle.playing.specs.Runs.{begun, run, run_over, told_over, closing};
 
 use plain::Device;
+use printing::Page;
 use script::Line;
 
 // How far the script is replayed: the record, the line under way and its number.
@@ -36,8 +37,9 @@ pub fn fresh() -> Replay
 }
 
 // Replays the next part of the input: "lines end with LF".
+#[tactic(auto, unfolding(crate::specs::Runs::run_over, crate::specs::Runs::told_over))]
 pub fn replayed(
-    replay: Replay,
+    mut replay: Replay,
     input: &[u8],
     cells: &mut [u16],
     otp: &mut [u16],
@@ -49,38 +51,29 @@ pub fn replayed(
     ensures words_after { run result.replay (lent cells.new otp.new) words.new ≡ run_over (run replay (lent cells.old otp.old) words.old) input.now }
     ensures put { Put out.old 0 out.new result.end (told_over (run replay (lent cells.old otp.old) words.old) input.now) }
 {
-    let mut device = replay.device;
-    let mut line = replay.line;
-    let mut number = replay.number;
-    let mut end: usize = 0;
-    let mut at: usize = 0;
-    while at < input.len() {
-        let byte = input[at];
+    let mut page = Page {
+        buffer: out,
+        end: 0,
+    };
+    for &byte in input {
         if byte == b'\n' {
-            let order = script::ended(line, words);
-            let told = acting::act(device, order, cells, otp, words, number, out, end);
-            device = told.device;
-            end = told.end;
-            line = script::begin();
-            number = std::num::wrapping_add_u64(number, 1);
-            at += 1;
+            let order = script::ended(replay.line, words);
+            let number = replay.number;
+            replay.device = acting::act(replay.device, order, cells, otp, words, number, &mut page);
+            replay.line = script::begin();
+            replay.number = number.wrapping_add(1);
         } else {
-            line = script::fed(line, byte, words);
-            at += 1;
+            replay.line = script::fed(replay.line, byte, words);
         }
     }
-    let replay = Replay {
-        device: device,
-        line: line,
-        number: number,
-    };
     Played {
-        replay: replay,
-        end: end,
+        replay,
+        end: page.end,
     }
 }
 
 // The end of the input ends a last line as an LF does, and the device's last line is told.
+#[tactic(auto, using(printing::proofs::Puts::adds_then), unfolding(crate::specs::Runs::ended, crate::specs::Runs::answered))]
 pub fn finished(
     replay: Replay,
     cells: &mut [u16],
@@ -92,11 +85,20 @@ pub fn finished(
     requires in_bounds { 376 ≤ length out.old }
     ensures { Put out.old 0 out.new result (closing (run replay (lent cells.old otp.old) words.old)) }
 {
-    let device = replay.device;
-    let line = replay.line;
-    let order = script::ended(line, words);
-    let told = acting::act(device, order, cells, otp, words, replay.number, out, 0);
-    let left = told.device;
-    let told_to = told.end;
-    answering::last(left, cells, otp, out, told_to)
+    let mut page = Page {
+        buffer: out,
+        end: 0,
+    };
+    let order = script::ended(replay.line, words);
+    let device = acting::act(
+        replay.device,
+        order,
+        cells,
+        otp,
+        words,
+        replay.number,
+        &mut page,
+    );
+    answering::last(device, cells, otp, &mut page);
+    page.end
 }

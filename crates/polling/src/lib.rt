@@ -1,9 +1,8 @@
 // Reads in the bank of what runs (document 01, "Status words"): which they are, and what they flip.
 #![tactic(auto)]
 
-ghost use Rattle.std.specs.Prelude.{◌≡◌, not};
+ghost use Rattle.std.specs.Prelude.{◌≡◌};
 ghost use Rattle.plain.specs.declared.Running.TheVariants.{Programs};
-ghost use Rattle.std.specs.Prelude.{if◌then◌else◌};
 ghost use Rattle.plain.specs.Operations.{running_inside, running_of};
 ghost use Rattle.plain.specs.Status.{polls, program_polled, erase_polled, inside_polled, polled};
 
@@ -12,29 +11,27 @@ use plain::{Erase, Inside, Operation, Program, Recovery, SuspendedErase};
 
 // "A read in the bank of a running operation (window included; any bank in a chip erase) gives a status word."
 // It goes by the operation as it stands, and copies nothing of it.
+#[tactic(auto, unfolding(plain::specs::Status::polls, plain::specs::Operations::running_of))]
 pub fn polls(part: Part, operation: Operation, address: usize) -> bool
     ensures { result ≡ polls part (running_of operation) address }
 {
     match operation {
-        Operation::Idle => false,
-        Operation::Programming(program) => program_polls(part, program, address),
-        Operation::ProgramSuspended(_) => false,
-        Operation::Window(erase) => part.bank_of(address) == part.bank_of_block(erase.hand),
-        Operation::Erasing(erase) => part.bank_of(address) == part.bank_of_block(erase.hand),
-        Operation::Recovering(recovery) => {
-            let erase = recovery.erase;
+        Operation::Idle | Operation::ProgramSuspended(_) | Operation::InOneTime => false,
+        Operation::Programming(program) | Operation::OneTimeProgramming(program) => {
+            program_polls(part, program, address)
+        }
+        Operation::Window(erase)
+        | Operation::Erasing(erase)
+        | Operation::Recovering(Recovery { erase, .. }) => {
             part.bank_of(address) == part.bank_of_block(erase.hand)
         }
-        Operation::EraseSuspended(suspended) => {
-            let inside = suspended.inside;
-            inside_polls(part, inside, address)
-        }
+        Operation::EraseSuspended(suspended) => inside_polls(part, suspended.inside, address),
         Operation::ChipErasing(_) => true,
-        Operation::InOneTime => false,
-        Operation::OneTimeProgramming(program) => program_polls(part, program, address),
     }
 }
 
+// On its own, as a pattern for a program in two places would copy it.
+#[tactic(auto, unfolding(plain::specs::Status::polls, plain::specs::Operations::running_inside))]
 fn inside_polls(part: Part, inside: Inside, address: usize) -> bool
     ensures { result ≡ polls part (running_inside inside) address }
 {
@@ -44,47 +41,39 @@ fn inside_polls(part: Part, inside: Inside, address: usize) -> bool
     }
 }
 
+#[tactic(auto, unfolding(plain::specs::Status::polls))]
 fn program_polls(part: Part, program: Program, address: usize) -> bool
     ensures { result ≡ polls part (Programs program) address }
 {
-    let written = program.writes;
-    part.bank_of(address) == programs::bank_written(part, written)
+    part.bank_of(address) == programs::bank_written(part, program.writes)
 }
 
 // The operation with the toggles that such a read shows.
+#[tactic(auto, unfolding(plain::specs::Status::polled))]
 pub fn polled(part: Part, operation: Operation, address: usize) -> Operation
     ensures { result ≡ polled part operation address }
 {
     match operation {
-        Operation::Idle => operation,
+        Operation::Idle | Operation::ProgramSuspended(_) | Operation::InOneTime => operation,
         Operation::Programming(program) => Operation::Programming(program_polled(program)),
-        Operation::ProgramSuspended(_) => operation,
         Operation::Window(erase) => Operation::Window(erase_polled(part, erase, address)),
         Operation::Erasing(erase) => Operation::Erasing(erase_polled(part, erase, address)),
-        Operation::Recovering(recovery) => {
-            let erase = recovery.erase;
-            Operation::Recovering(Recovery {
-                erase: erase_polled(part, erase, address),
-                left: recovery.left,
-            })
-        }
-        Operation::EraseSuspended(suspended) => {
-            let erase = suspended.erase;
-            let inside = suspended.inside;
-            let after = inside_polled(inside);
-            Operation::EraseSuspended(SuspendedErase {
-                erase: erase,
-                inside: after,
-            })
-        }
+        Operation::Recovering(recovery) => Operation::Recovering(Recovery {
+            erase: erase_polled(part, recovery.erase, address),
+            ..recovery
+        }),
+        Operation::EraseSuspended(suspended) => Operation::EraseSuspended(SuspendedErase {
+            inside: inside_polled(suspended.inside),
+            ..suspended
+        }),
         Operation::ChipErasing(erase) => Operation::ChipErasing(erase_polled(part, erase, address)),
-        Operation::InOneTime => operation,
         Operation::OneTimeProgramming(program) => {
             Operation::OneTimeProgramming(program_polled(program))
         }
     }
 }
 
+#[tactic(auto, unfolding(plain::specs::Status::inside_polled))]
 fn inside_polled(inside: Inside) -> Inside
     ensures { result ≡ inside_polled inside }
 {
@@ -98,11 +87,9 @@ fn inside_polled(inside: Inside) -> Inside
 fn program_polled(program: Program) -> Program
     ensures { result ≡ program_polled program }
 {
-    let written = program.writes;
     Program {
-        writes: written,
-        left: program.left,
         dq6: !program.dq6,
+        ..program
     }
 }
 
@@ -110,21 +97,9 @@ fn program_polled(program: Program) -> Program
 fn erase_polled(part: Part, erase: Erase, address: usize) -> Erase
     ensures { result ≡ erase_polled part erase address }
 {
-    let list = erase.list;
     Erase {
-        list: list,
-        hand: erase.hand,
-        left: erase.left,
         dq6: !erase.dq6,
-        dq2: flipped(list.has(part.block_of(address)), erase.dq2),
+        dq2: erase.dq2 != erase.list.has(part.block_of(address)),
+        ..erase
     }
-}
-
-fn flipped(hit: bool, bit: bool) -> bool
-    ensures { result ≡ (if hit then not bit else bit) }
-{
-    if hit {
-        return !bit;
-    }
-    bit
 }

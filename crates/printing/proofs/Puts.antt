@@ -1,36 +1,23 @@
 -- Bytes put one after the other.
-use Prim.Native.Nat.{ℕ, suc, ◌+◌, ◌<◌}
-use mathlib.Core.Path.{◌≡◌, sym}
-use mathlib.Core.List.{List, [], ◌++◌, append_assoc, append-nil}
-use native.Mathlib.Nat.{zero-add}
-use native.Mathlib.Numerals.{add-one}
+use Prim.Native.Nat.{ℕ, ◌+◌, ◌≤◌}
+use mathlib.Core.Path.{◌∙◌}
+use mathlib.Core.List.{List, ◌++◌, append_assoc}
 use native.Mathlib.Omega.{arith}
-use lib.ListN.{length, take, get_or, set, length-append, length-take}
-use lib.Seq.{take-suc, take-suc-set}
-use Rattle.io.specs.Counts.{IsPrefixLen}
-use Rattle.printing.specs.Put.{Put}
+use lib.ListN.{length-append}
+use Rattle.printing.specs.declared.Page.{Page}
+use Rattle.printing.specs.Page.{Adds}
 
--- one byte more of a text
-pub one_more : (line before text : List ℕ) (at i : ℕ) → at + i < length line → i < length text → take (at + i) line ≡ take at before ++ take i text
-    → take (at + (i + 1)) (set line (at + i) (get_or text i 0)) ≡ take at before ++ take (i + 1) text
-one_more line before text at i room inside so =
-    let next : at + (i + 1) ≡ suc (at + i) = omega arith in
-    rw (next, take-suc-set line (at + i) (get_or text i 0) room, so, add-one, take-suc text i 0 inside, append_assoc)
-
--- bytes behind bytes
-pub put_then : {before between after : List ℕ} {at middle end : ℕ} {bytes more : List ℕ} → Put before at between middle bytes → Put between middle after end more → Put before at after end (bytes ++ more)
-put_then {bytes = bytes} {more = more} p q =
+pub adds_then : {before between after : Page} {bytes more : List ℕ} {most rest all : ℕ} → Adds before between bytes most → Adds between after more rest → most + rest ≤ all
+    → Adds before after (bytes ++ more) all
+adds_then {bytes = bytes} {more = more} p q within =
     record {
-      counts = rw (length-append bytes more) (omega arith);
-      filled = rw (q.filled, p.filled, append_assoc);
+      same_buffer = q.same_buffer ∙ p.same_buffer;
+      same_length = q.same_length ∙ p.same_length;
+      put = record { counts = rw (length-append bytes more) (omega arith); filled = rw (q.put.filled, p.put.filled, append_assoc) };
+      upper_bound = omega arith;
     }
 
--- no bytes
-pub put-none : {before : List ℕ} {at : ℕ} → Put before at before at []
-put-none = record { counts = omega arith; filled = rw append-nil }
-
--- what a buffer is filled with from its beginning can be shared
-pub counted : {before after bytes : List ℕ} {end : ℕ} → Put before 0 after end bytes → IsPrefixLen end after
-counted {after = after} {end = end} p =
-    let same : length (take end after) ≡ end = rw p.filled (sym (rw zero-add at p.counts)) in
-    (omega (arith, length-take end after), sym same)
+-- no more than so many are no more than more
+pub adds_within : {before after : Page} {bytes : List ℕ} {most all : ℕ} → Adds before after bytes most → most ≤ all → Adds before after bytes all
+adds_within p within =
+    record { same_buffer = p.same_buffer; same_length = p.same_length; put = p.put; upper_bound = omega arith }

@@ -1,7 +1,9 @@
 -- What a wait comes to while a program runs: alone, inside a suspended erase or in the one-time block.
-use Prim.Native.Nat.{ℕ, ◌-◌, ◌*◌, ◌<◌, ◌≤◌}
-use mathlib.Core.Path.{◌≡◌, refl, sym, ap, ◌∙◌}
-use mathlib.Core.Bool.{true}
+use Rattle.std.specs.Prelude.{Option, Some, None}
+use Rattle.std.specs.Option.{MatchOption, option_map_or}
+use Prim.Native.Nat.{ℕ, ◌-◌, ◌*◌, ◌≤◌}
+use mathlib.Core.Path.{◌≡◌, sym, ap, ◌∙◌}
+use borrow.Author.Tests.{lt-ltb, le-ltb}
 use Rattle.geometry.specs.declared.Part.{Part}
 use Rattle.meter.specs.declared.Meter.{Meter}
 use Rattle.meter.specs.Meter.{metered}
@@ -10,7 +12,7 @@ use Rattle.plain.specs.declared.Erase.{Erase}
 use Rattle.plain.specs.declared.Inside.{Inside}
 use Rattle.plain.specs.declared.Inside.TheVariants.{Nothing, Runs}
 use Rattle.plain.specs.declared.SuspendedErase.{SuspendedErase}
-use Rattle.plain.specs.declared.Suspension.TheVariants.{Unsuspended, OfErase, Entered}
+use Rattle.plain.specs.declared.Suspension.TheVariants.{OfErase}
 use Rattle.plain.specs.declared.Operation.{Operation}
 use Rattle.plain.specs.declared.Operation.TheVariants.{Idle, Programming, EraseSuspended, InOneTime, OneTimeProgramming}
 use Rattle.plain.specs.Figures.{running_current, standby_current}
@@ -20,74 +22,67 @@ use Rattle.plain.specs.Record.{program_left, suspended}
 use Rattle.plain.specs.Time.{moment}
 use Rattle.plain.proofs.Facts.{ProgramFacts, programming, inside-runs, one-time-programming}
 use Rattle.plain.proofs.InTime.{idle-still, erase-still, entered-still, program-running, inside-running, one-time-running}
-use Rattle.plain.proofs.Ticks.{still, drift, passes}
+use Rattle.plain.proofs.Ticks.{Still, Running, still, drift, passes}
+use Rattle.plain.proofs.Tools.{by_order}
 use Rattle.moments.specs.Moments.{Passable, moved}
 use Rattle.moments.proofs.Passed.{Passed, passed, still-passed}
+use Rattle.programming.specs.Run.{left_of, drawn_by, lent_after}
 
-abbrev inside : Erase → Program → Operation
-inside e q = EraseSuspended (suspended e (Runs q))
+-- ---- where a program stands: the operation while it runs, and once it has ended
+
+abbrev pub alone : Option Program → Operation
+alone left = option_map_or Programming left Idle
+
+abbrev pub inside : Erase → Option Program → Operation
+inside e left = EraseSuspended (suspended e (option_map_or Runs left Nothing))
+
+abbrev pub in_block : Option Program → Operation
+in_block left = option_map_or OneTimeProgramming left InOneTime
 
 -- a suspended erase, by what goes on inside it
-pub inside_is : (s : SuspendedErase) (i : Inside) → s.inside ≡ i → EraseSuspended (suspended s.erase i) ≡ EraseSuspended s
+inside_is : (s : SuspendedErase) (i : Inside) → s.inside ≡ i → EraseSuspended (suspended s.erase i) ≡ EraseSuspended s
 inside_is s i e = ap (λ (x : Inside). EraseSuspended (suspended s.erase x)) (sym e)
 
--- what soundness says of the program
-pub alone-facts : (p : Part) (m : Meter) (q : Program) (l : Lent) (n : ℕ) → (f : Passable p m (Programming q) l n) → ProgramFacts p f.bits Unsuspended q
-alone-facts p m q l n f = programming p f.bits q f.sound
+-- what `map_or` gives of it
+pub told : {T U : Type 0} (f : T → U) (left : Option T) (d r : U) → MatchOption left (r ≡ d) (λ x. r ≡ f x) → r ≡ option_map_or f left d
+told f None d r e = e
+told f (Some x) d r e = e
 
-pub inside-facts : (p : Part) (m : Meter) (e : Erase) (q : Program) (l : Lent) (n : ℕ) → (f : Passable p m (EraseSuspended (suspended e (Runs q))) l n) → ProgramFacts p f.bits (OfErase e) q
-inside-facts p m e q l n f = (inside-runs p f.bits (suspended e (Runs q)) q f.sound refl).program
+-- ---- a wait while one runs
 
-pub one-time-facts : (p : Part) (m : Meter) (q : Program) (l : Lent) (n : ℕ) → (f : Passable p m (OneTimeProgramming q) l n) → ProgramFacts p f.bits Entered q
-one-time-facts p m q l n f = one-time-programming p f.bits q f.sound
+module _ (p : Part) (m : Meter) (q : Program) (l : Lent) (n : ℕ) where
+  passed-in : (at : Option Program → Operation)
+      → Running p (λ k. at (Some (program_left q k))) (running_current p) (at None) (finished q.writes)
+      → Still p (at None) (standby_current p) → 1 ≤ q.left
+      → Passed p n (moment m (at (Some q)) l) (moved (moment (drawn_by p m q n) (at (left_of q n)) l)) (lent_after q n l)
+  passed-in at r s some =
+      passed p n (moment m (at (Some q)) l) (moment (drawn_by p m q n) (at (left_of q n)) (lent_after q n l))
+      (by_order n q.left
+      (λ h. rw (lt-ltb n q.left h) (drift p _ _ _ _ r n q.left m l h))
+      (λ h. rw (le-ltb n q.left h)
+      (passes p _ _ _ _ r n q.left m l some h ∙ still p (at None) (standby_current p) s (n - q.left) _ (finished q.writes l))))
 
-module _ (p : Part) (m : Meter) (l : Lent) (n : ℕ) where
-  abbrev runs : ℕ → Meter
-  runs k = metered m k (k * running_current p)
+  pub passed-alone : Passable p m (Programming q) l n
+      → Passed p n (moment m (Programming q) l) (moved (moment (drawn_by p m q n) (alone (left_of q n)) l)) (lent_after q n l)
+  passed-alone f = passed-in alone (program-running p q) (idle-still p) (programming p f.bits q f.sound).some_left
 
-  -- the rest of a wait after what ended
-  abbrev ended : ℕ → Meter
-  ended k = metered (runs k) (n - k) ((n - k) * standby_current p)
+  pub passed-one-time : Passable p m (OneTimeProgramming q) l n
+      → Passed p n (moment m (OneTimeProgramming q) l) (moved (moment (drawn_by p m q n) (in_block (left_of q n)) l)) (lent_after q n l)
+  passed-one-time f = passed-in in_block (one-time-running p q) (entered-still p) (one-time-programming p f.bits q f.sound).some_left
 
-  pub suspended-stands : (s : SuspendedErase) → s.inside ≡ Nothing
-      → Passed p n (moment m (EraseSuspended s) l) (moved (moment (metered m n (n * standby_current p)) (EraseSuspended s) l)) l
-  suspended-stands s d = rw (← inside_is s Nothing d) (still-passed p m (EraseSuspended (suspended s.erase Nothing)) l n (erase-still p s.erase))
+  -- inside a suspended erase
+  module _ (s : SuspendedErase) (runs : s.inside ≡ Runs q) (f : Passable p m (EraseSuspended s) l n) where
+    pub inside-facts : ProgramFacts p f.bits (OfErase s.erase) q
+    inside-facts = (inside-runs p f.bits s q f.sound runs).program
 
-  pub program-goes-on : (q : Program) → n < q.left → Passed p n (moment m (Programming q) l) (moved (moment (runs n) (Programming (program_left q (q.left - n))) l)) l
-  program-goes-on q h =
-      passed p n (moment m (Programming q) l) (moment (runs n) (Programming (program_left q (q.left - n))) l)
-      (drift p _ _ _ _ (program-running p q) n q.left m l h)
+    pub passed-inside : Passed p n (moment m (EraseSuspended s) l) (moved (moment (drawn_by p m q n) (inside s.erase (left_of q n)) l)) (lent_after q n l)
+    passed-inside =
+        rw (← inside_is s (Runs q) runs)
+        (passed-in (inside s.erase) (inside-running p s.erase q) (erase-still p s.erase) inside-facts.some_left)
 
-  pub program-ends : (q : Program) → 1 ≤ q.left → q.left ≤ n
-      → Passed p n (moment m (Programming q) l) (moved (moment (ended q.left) Idle l)) (finished q.writes l)
-  program-ends q s h =
-      passed p n (moment m (Programming q) l) (moment (ended q.left) Idle (finished q.writes l))
-      (passes p _ _ _ _ (program-running p q) n q.left m l s h
-      ∙ still p Idle (standby_current p) (idle-still p) (n - q.left) (runs q.left) (finished q.writes l))
-
-  pub inside-goes-on : (e : Erase) (q : Program) → n < q.left → Passed p n (moment m (inside e q) l) (moved (moment (runs n) (inside e (program_left q (q.left - n))) l)) l
-  inside-goes-on e q h =
-      passed p n (moment m (inside e q) l) (moment (runs n) (inside e (program_left q (q.left - n))) l)
-      (drift p _ _ _ _ (inside-running p e q) n q.left m l h)
-
-  pub inside-ends : (e : Erase) (q : Program) → 1 ≤ q.left → q.left ≤ n
-      → Passed p n (moment m (inside e q) l) (moved (moment (ended q.left) (EraseSuspended (suspended e Nothing)) l)) (finished q.writes l)
-  inside-ends e q s h =
-      passed p n (moment m (inside e q) l) (moment (ended q.left) (EraseSuspended (suspended e Nothing)) (finished q.writes l))
-      (passes p _ _ _ _ (inside-running p e q) n q.left m l s h
-      ∙ still p (EraseSuspended (suspended e Nothing)) (standby_current p) (erase-still p e) (n - q.left) (runs q.left) (finished q.writes l))
-
-  -- ---- in the one-time block
-
-  pub one-time-goes-on : (q : Program) → n < q.left
-      → Passed p n (moment m (OneTimeProgramming q) l) (moved (moment (runs n) (OneTimeProgramming (program_left q (q.left - n))) l)) l
-  one-time-goes-on q h =
-      passed p n (moment m (OneTimeProgramming q) l) (moment (runs n) (OneTimeProgramming (program_left q (q.left - n))) l)
-      (drift p _ _ _ _ (one-time-running p q) n q.left m l h)
-
-  pub one-time-ends : (q : Program) → 1 ≤ q.left → q.left ≤ n
-      → Passed p n (moment m (OneTimeProgramming q) l) (moved (moment (ended q.left) InOneTime l)) (finished q.writes l)
-  one-time-ends q s h =
-      passed p n (moment m (OneTimeProgramming q) l) (moment (ended q.left) InOneTime (finished q.writes l))
-      (passes p _ _ _ _ (one-time-running p q) n q.left m l s h
-      ∙ still p InOneTime (standby_current p) (entered-still p) (n - q.left) (runs q.left) (finished q.writes l))
+-- nothing runs inside it
+pub suspended-stands : (p : Part) (m : Meter) (l : Lent) (n : ℕ) (s : SuspendedErase) → s.inside ≡ Nothing
+    → Passed p n (moment m (EraseSuspended s) l) (moved (moment (metered m n (n * standby_current p)) (EraseSuspended s) l)) l
+suspended-stands p m l n s none =
+    rw (← inside_is s Nothing none)
+    (still-passed p m (EraseSuspended (suspended s.erase Nothing)) l n (erase-still p s.erase))

@@ -23,6 +23,7 @@ pub fn after_48(part: Part, bits: Protection, address: usize, word: u16) -> Effe
 }
 
 // 60H: "then 68H and 48H in the same block set its PPB, or 60H and 40H at any address clear all PPBs".
+#[tactic(auto, unfolding(plain::specs::Commands::after60))]
 pub fn after_60(part: Part, suspension: Suspension, address: usize, word: u16) -> Effect
     ensures { result ≡ after60 part suspension address word }
 {
@@ -48,6 +49,7 @@ fn lock_setup(suspension: Suspension, word: u16) -> Effect
 }
 
 // 60H and 68H, then 48H "in the same block".
+#[tactic(auto, unfolding(plain::specs::Commands::after68))]
 pub fn after_68(
     part: Part,
     bits: Protection,
@@ -58,40 +60,32 @@ pub fn after_68(
 ) -> Effect
     ensures { result ≡ after68 part bits suspension block address word }
 {
-    if at_lock(suspension, address) {
+    if at_lock(suspension, address) || word % 256 != 0x48 {
         return reset_or_sequence(suspension, word);
     }
-    if word % 256 != 0x48 {
-        return reset_or_sequence(suspension, word);
-    }
-    let here = part.block_of(address);
-    if here != block {
+    if part.block_of(address) != block {
         return Effect::Falls(Refusal::Sequence);
     }
     unless_locked(bits, bits.with_ppb(block))
 }
 
 // 60H and 60H, then 40H "at any address" but the lock's.
+#[tactic(auto, unfolding(plain::specs::Commands::after6060))]
 pub fn after_6060(bits: Protection, suspension: Suspension, address: usize, word: u16) -> Effect
     ensures { result ≡ after6060 bits suspension address word }
 {
-    if at_lock(suspension, address) {
-        return reset_or_sequence(suspension, word);
-    }
-    if word % 256 != 0x40 {
+    if at_lock(suspension, address) || word % 256 != 0x40 {
         return reset_or_sequence(suspension, word);
     }
     unless_locked(bits, bits.without_ppbs())
 }
 
 // 60H and 68H at the lock, then 48H there: the PPB lock bit has no part in it.
+#[tactic(auto, unfolding(plain::specs::Commands::after_lock_68))]
 pub fn after_lock_68(bits: Protection, suspension: Suspension, address: usize, word: u16) -> Effect
     ensures { result ≡ after_lock_68 bits suspension address word }
 {
-    if !at_lock(suspension, address) {
-        return reset_or_sequence(suspension, word);
-    }
-    if word % 256 == 0x48 {
+    if at_lock(suspension, address) && word % 256 == 0x48 {
         return Effect::Protects(bits.with_seal());
     }
     reset_or_sequence(suspension, word)

@@ -35,113 +35,82 @@ impl Protection {
     pub fn with_dyb(self, block: usize) -> Self
         ensures { result ≡ dyb_set self block }
     {
-        let dyb = self.dyb.with(block);
-        let ppb = self.ppb;
         Protection {
-            dyb: dyb,
-            ppb: ppb,
-            lock: self.lock,
-            sealed: self.sealed,
+            dyb: self.dyb.with(block),
+            ..self
         }
     }
 
     pub fn without_dyb(self, block: usize) -> Self
         ensures { result ≡ dyb_cleared self block }
     {
-        let dyb = self.dyb.without(block);
-        let ppb = self.ppb;
         Protection {
-            dyb: dyb,
-            ppb: ppb,
-            lock: self.lock,
-            sealed: self.sealed,
+            dyb: self.dyb.without(block),
+            ..self
         }
     }
 
     pub fn with_ppb(self, block: usize) -> Self
         ensures { result ≡ ppb_set self block }
     {
-        let dyb = self.dyb;
-        let ppb = self.ppb.with(block);
         Protection {
-            dyb: dyb,
-            ppb: ppb,
-            lock: self.lock,
-            sealed: self.sealed,
+            ppb: self.ppb.with(block),
+            ..self
         }
     }
 
     pub fn without_ppbs(self) -> Self
         ensures { result ≡ ppbs_cleared self }
     {
-        let dyb = self.dyb;
         Protection {
-            dyb: dyb,
             ppb: Blocks::empty(),
-            lock: self.lock,
-            sealed: self.sealed,
+            ..self
         }
     }
 
     pub fn with_lock(self) -> Self
         ensures { result ≡ locked self }
     {
-        let dyb = self.dyb;
-        let ppb = self.ppb;
-        Protection {
-            dyb: dyb,
-            ppb: ppb,
-            lock: true,
-            sealed: self.sealed,
-        }
+        Protection { lock: true, ..self }
     }
 
     // Once set it is set for ever: nothing here clears it.
     pub fn with_seal(self) -> Self
         ensures { result ≡ sealed_for self }
     {
-        let dyb = self.dyb;
-        let ppb = self.ppb;
         Protection {
-            dyb: dyb,
-            ppb: ppb,
-            lock: self.lock,
             sealed: true,
+            ..self
         }
     }
 
     pub fn after_cut(self) -> Self
         ensures { result ≡ after_cut self }
     {
-        let ppb = self.ppb;
         Protection {
             dyb: Blocks::empty(),
-            ppb: ppb,
             lock: false,
-            sealed: self.sealed,
+            ..self
         }
     }
 
     // The one check of a block, and below the one set of them: whoever asks goes through these two.
+    #[tactic(auto, unfolding(crate::specs::Protection::protected_by))]
     pub fn is_protected(self, block: usize) -> bool
         ensures { result ≡ protected self block }
     {
-        if self.dyb.has(block) {
-            return true;
-        }
-        self.ppb.has(block)
+        self.dyb.has(block) || self.ppb.has(block)
     }
 
     // The one check of a one-time word.
+    #[tactic(auto, unfolding(crate::specs::Protection::word_locked_by))]
     pub fn locks_word(self, at: usize) -> bool
         ensures { result ≡ word_locked self at }
     {
-        if at < FACTORY_WORDS {
-            return true;
-        }
-        self.sealed
+        at < FACTORY_WORDS || self.sealed
     }
 
+    #[tactic(auto, unfolding(crate::specs::Protection::protected_by))]
     pub fn protected_blocks(self) -> Blocks
         ensures { result ≡ protected_blocks self }
     {
@@ -159,9 +128,6 @@ impl Protection {
     pub fn has_stray(self, part: Part) -> bool
         ensures { result ≡ stray_bits part self }
     {
-        if regions::has_stray(part, self.dyb) {
-            return true;
-        }
-        regions::has_stray(part, self.ppb)
+        regions::has_stray(part, self.dyb) || regions::has_stray(part, self.ppb)
     }
 }

@@ -1,21 +1,20 @@
 -- What a range is answered, and that one which is DONE lies in the array that it selects.
+use Rattle.std.specs.Prelude.{Err}
 use Prim.Native.Nat.{ℕ, ◌+◌, ◌-◌, ◌<◌, ◌≤◌}
 use mathlib.Core.Path.{◌≡◌, refl, sym, ap, ◌∙◌}
 use mathlib.Core.Bool.{true, false, not}
 use mathlib.Core.List.{List}
 use native.Mathlib.Omega.{arith}
-use lib.Dec.{ltb, leb, eqb}
+use lib.Dec.{ltb}
 use lib.ListN.{length}
-use borrow.Author.Tests.{ltb-true, lt-ltb, le-ltb, leb-true, le-leb, lt-leb, not-true}
+use borrow.Author.Tests.{ltb-true, lt-ltb, le-ltb, leb-true, le-leb, lt-leb}
 use Rattle.geometry.specs.declared.Part.{Part}
 use Rattle.geometry.specs.Parts.{word_count}
 use Rattle.plain.specs.declared.Array.{Array}
-use Rattle.plain.specs.declared.Array.TheVariants.{Main, OneTime}
 use Rattle.plain.specs.declared.Device.{Device}
-use Rattle.plain.specs.declared.Entry.TheVariants.{Barred}
 use Rattle.plain.specs.declared.Operation.{Operation}
 use Rattle.plain.specs.declared.Refusal.{Refusal}
-use Rattle.plain.specs.declared.Refusal.TheVariants.{Done, State, Cells, Address, Busy}
+use Rattle.plain.specs.declared.Refusal.TheVariants.{Done, Address, Busy}
 use Rattle.plain.specs.declared.Suspension.{Suspension}
 use Rattle.plain.specs.declared.Suspension.TheVariants.{Unsuspended, OfProgram, OfErase, Entered}
 use Rattle.std.specs.Prelude.{if◌then◌else◌}
@@ -25,12 +24,12 @@ use Rattle.plain.specs.Operations.{suspension_of, selected}
 use Rattle.plain.specs.Record.{answer}
 use Rattle.plain.specs.Refusals.{number}
 use Rattle.plain.proofs.Ladder.{entry-admitted, ladder-barred, ladder-own, ladder-taken, by-ladder}
-use Rattle.plain.proofs.Tools.{by-test, by_cases, both, both_left, both_right, clash}
+use Rattle.plain.proofs.Tools.{by-test, by_cases, both, both_right, clash}
 use Rattle.ranging.specs.Ranged.{ranged}
 
 -- ---- the answer
 
-pub range-barred : (p : Part) (r : Device) (l : Lent) (first count : ℕ) (n : Refusal) → entry p r l ≡ Barred n → n ≡ (range_event p r l first count).answer.refusal
+pub range-barred : (p : Part) (r : Device) (l : Lent) (first count : ℕ) (n : Refusal) → entry p r l ≡ Err n → n ≡ (range_event p r l first count).answer.refusal
 unfolding range_event
 range-barred p r l first count n e = sym (ap (λ (o : Outcome). o.answer.refusal) (ladder-barred p r l _ Address _ n e))
 

@@ -8,7 +8,7 @@ ghost use Rattle.plain.specs.Machine.{range_array, hands_back, range_event, rang
 ghost use Rattle.ranging.specs.Ranged.{ranged};
 
 use geometry::Part;
-use plain::{Array, Device, Entry, Operation, Refusal, figures};
+use plain::{Array, Device, Operation, Refusal, figures};
 
 // STATE and CELLS as of every event, then ADDRESS and BUSY.
 pub fn refusal(
@@ -21,13 +21,9 @@ pub fn refusal(
 ) -> Refusal
     ensures { result ≡ (range_event part device (lent cells.now otp.now) first count).answer.refusal }
 {
-    let entry = judged::entry(part, soundness::is_sound(part, device), cells, otp);
-    match entry {
-        Entry::Barred(refusal) => refusal,
-        Entry::Admitted => {
-            let operation = device.operation;
-            within(part, operation, first, count)
-        }
+    match judged::entry(part, soundness::is_sound(part, device), cells, otp) {
+        Err(refusal) => refusal,
+        Ok(()) => within(part, device.operation, first, count),
     }
 }
 
@@ -68,18 +64,7 @@ fn size_of(part: Part, array: Array) -> usize
 fn hands_back(operation: Operation) -> bool
     ensures { result ≡ hands_back operation }
 {
-    match operation {
-        Operation::Idle => false,
-        Operation::Programming(_) => false,
-        Operation::ProgramSuspended(_) => false,
-        Operation::Window(_) => false,
-        Operation::Erasing(_) => false,
-        Operation::Recovering(_) => false,
-        Operation::EraseSuspended(_) => false,
-        Operation::ChipErasing(_) => false,
-        Operation::InOneTime => true,
-        Operation::OneTimeProgramming(_) => false,
-    }
+    operations::is_entered(operations::suspension_of(operation)) && operations::is_still(operation)
 }
 
 // The words in place, of the array that mode and first address select.
@@ -94,9 +79,8 @@ pub fn range<'a>(
     ensures { result.now ≡ range_words part device (lent cells.now otp.now) first count }
 {
     let answer = refusal(part, device, cells, otp, first, count);
-    let operation = device.operation;
-    let words = select(array(operation, first), cells, otp);
-    if answers::number_of(answer) != 0 {
+    let words = select(array(device.operation, first), cells, otp);
+    if answer != Refusal::Done {
         return &words[..0];
     }
     &words[first..first + count]

@@ -14,6 +14,7 @@ mod resting;
 // The word that a read sees, and the operation with its toggles afterwards: first the status of what runs in the bank, "after
 // that come identity and 58H reading; then suspension", and "any other read gives the cell", or
 // the one-time word.
+#[tactic(auto, unfolding(plain::specs::Status::look))]
 pub fn look(part: Part, device: Device, cells: &[u16], otp: &[u16], address: usize) -> Seen
     requires { (address < length cells.now) × (length otp.now ≡ otp_words) }
     ensures { result ≡ look part device.bits device.command device.operation (lent cells.now otp.now) address }
@@ -26,12 +27,10 @@ pub fn look(part: Part, device: Device, cells: &[u16], otp: &[u16], address: usi
             operation: after,
         };
     }
-    let command = device.command;
-    if readings::reading_on(part, command, address) {
-        let bits = device.bits;
+    if readings::reading_on(part, device.command, address) {
         return Seen {
-            word: readings::reading_word(part, bits, command, address),
-            operation: operation,
+            word: readings::reading_word(part, device.bits, device.command, address),
+            operation,
         };
     }
     if resting::rests(part, operations::suspension_of(operation), address) {
@@ -41,13 +40,9 @@ pub fn look(part: Part, device: Device, cells: &[u16], otp: &[u16], address: usi
             operation: after,
         };
     }
-    let selected = operations::selected(operations::suspension_of(operation), address);
-    let word = match selected {
+    let word = match operations::selected(operations::suspension_of(operation), address) {
         Array::Main => cells[address],
         Array::OneTime => otp[address],
     };
-    Seen {
-        word: word,
-        operation: operation,
-    }
+    Seen { word, operation }
 }

@@ -8,38 +8,39 @@ use protection::Protection;
 use status::shown;
 
 // Does a reading answer at the address?
+#[tactic(auto, unfolding(plain::specs::Status::reading_on))]
 pub fn reading_on(part: Part, command: Command, address: usize) -> bool
     ensures { result ≡ reading_on part command address }
 {
     match command {
-        Command::Ground => false,
-        Command::Entering(_) => false,
+        Command::Ground | Command::Entering(_) => false,
         Command::Reads(reading) => given_at(part, reading, address),
     }
 }
 
 // "90H: identity reading in the bank of this third address"; "58H: each read"
+#[tactic(auto, unfolding(plain::specs::Status::given_at))]
 fn given_at(part: Part, reading: Reading, address: usize) -> bool
     ensures { result ≡ given_at part reading address }
 {
     match reading {
         Reading::Identity(bank) => part.bank_of(address) == bank,
-        Reading::Dybs => true,
-        Reading::OtpLock => true,
+        Reading::Dybs | Reading::OtpLock => true,
     }
 }
 
 // The word that it gives.
+#[tactic(auto, unfolding(plain::specs::Status::reading_word))]
 pub fn reading_word(part: Part, bits: Protection, command: Command, address: usize) -> u16
     ensures { result ≡ reading_word part bits command address }
 {
     match command {
-        Command::Ground => 0,
-        Command::Entering(_) => 0,
+        Command::Ground | Command::Entering(_) => 0,
         Command::Reads(reading) => given_word(part, bits, reading, address),
     }
 }
 
+#[tactic(auto, unfolding(plain::specs::Status::given_word))]
 fn given_word(part: Part, bits: Protection, reading: Reading, address: usize) -> u16
     ensures { result ≡ given_word part bits reading address }
 {
@@ -54,20 +55,16 @@ fn given_word(part: Part, bits: Protection, reading: Reading, address: usize) ->
 fn identity_word(part: Part, bits: Protection, address: usize) -> u16
     ensures { result ≡ identity_word part bits address }
 {
-    if address % 256 == 0x00 {
-        return 0x00ec;
+    match address % 256 {
+        0x00 => 0x00ec,
+        0x02 => shown(bits.ppb.has(part.block_of(address)), 1),
+        _ => 0,
     }
-    if address % 256 == 0x02 {
-        let ppb = bits.ppb;
-        return shown(ppb.has(part.block_of(address)), 1);
-    }
-    0
 }
 
 // "each read gives the block's DYB in bit 0 and the PPB lock bit in bit 1"
 fn dyb_word(part: Part, bits: Protection, address: usize) -> u16
     ensures { result ≡ dyb_word part bits address }
 {
-    let dyb = bits.dyb;
-    shown(dyb.has(part.block_of(address)), 1) + shown(bits.lock, 2)
+    shown(bits.dyb.has(part.block_of(address)), 1) + shown(bits.lock, 2)
 }

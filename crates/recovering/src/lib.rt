@@ -17,14 +17,13 @@ pub fn pass_recovery(part: Part, meter: Meter, recovery: Recovery, n: u64) -> Mo
     requires le_left { 1 ≤ recovery.left }
     ensures { MovesAlone part n meter (Recovering recovery) result }
 {
-    let erase = recovery.erase;
-    let left = recovery.left;
+    let Recovery { erase, left } = recovery;
     if n < left {
         return Moved {
             meter: moments::ran(part, meter, n),
             operation: Operation::Recovering(Recovery {
-                erase: erase,
                 left: left - n,
+                ..recovery
             }),
         };
     }
@@ -32,7 +31,7 @@ pub fn pass_recovery(part: Part, meter: Meter, recovery: Recovery, n: u64) -> Mo
     Moved {
         meter: moments::stood_by(part, recovered, n - left),
         operation: Operation::EraseSuspended(SuspendedErase {
-            erase: erase,
+            erase,
             inside: Inside::Nothing,
         }),
     }

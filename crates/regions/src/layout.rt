@@ -65,20 +65,15 @@ const EVERY: Blocks = Blocks {
 };
 
 // The numbers that are no block of the bank; every number, where there is no such bank.
+#[tactic(auto, unfolding(blocks::specs::Blocks::set_of, blocks::specs::Blocks::pack, geometry::specs::Parts::bank_in))]
 pub fn outside(bank: usize) -> Blocks
     ensures { result ≡ set_of (λ b. not (ltb b 270 && eqb (bank_in b) bank)) }
 {
-    if bank == 0 {
-        return OUTSIDE_0;
+    match bank {
+        0 => OUTSIDE_0,
+        1 => OUTSIDE_1,
+        2 => OUTSIDE_2,
+        3 => OUTSIDE_3,
+        _ => EVERY,
     }
-    if bank == 1 {
-        return OUTSIDE_1;
-    }
-    if bank == 2 {
-        return OUTSIDE_2;
-    }
-    if bank == 3 {
-        return OUTSIDE_3;
-    }
-    EVERY
 }

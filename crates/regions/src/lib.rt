@@ -11,6 +11,7 @@ use geometry::Part;
 mod layout;
 
 // The part's blocks.
+#[tactic(auto, unfolding(blocks::specs::Blocks::set_of, blocks::specs::Blocks::pack, geometry::specs::Parts::block_count))]
 pub fn blocks_of(part: Part) -> Blocks
     ensures { result ≡ blocks_of part }
 {
@@ -21,6 +22,7 @@ pub fn blocks_of(part: Part) -> Blocks
 }
 
 // The numbers that are no block's.
+#[tactic(auto, unfolding(blocks::specs::Blocks::set_of, blocks::specs::Blocks::pack, geometry::specs::Parts::block_count))]
 pub fn strangers(part: Part) -> Blocks
     ensures { result ≡ strangers part }
 {
@@ -31,6 +33,7 @@ pub fn strangers(part: Part) -> Blocks
 }
 
 // The numbers that are no block of the bank.
+#[tactic(auto, unfolding(geometry::specs::Parts::block_count, geometry::specs::Parts::bank_of_block))]
 pub fn outside_bank(part: Part, bank: usize) -> Blocks
     ensures { result ≡ outside_bank part bank }
 {

@@ -33,46 +33,37 @@ pub struct Finish {
     pub at: usize,
 }
 
+#[tactic(auto, unfolding(crate::specs::Remaining::change_of))]
 pub fn change_of(running: Running) -> Change
     ensures { result ≡ change_of running }
 {
     match running {
         Running::Still => Change::Never,
-        Running::Programs(program) => {
-            let written = program.writes;
-            let array = programs::array_written(written);
-            Change::WordDone(WordFinish {
-                after: program.left,
-                array: array,
-                at: programs::first_word(written),
-            })
-        }
+        Running::Programs(program) => Change::WordDone(WordFinish {
+            after: program.left,
+            array: programs::array_written(program.writes),
+            at: programs::first_word(program.writes),
+        }),
         Running::Waits(erase) => Change::WindowEnds(erase.left),
-        Running::Erases(erase) => Change::BlockDone(Finish {
+        Running::Erases(erase) | Running::ErasesChip(erase) => Change::BlockDone(Finish {
             after: erase.left,
             at: erase.hand,
         }),
         Running::Recovers(recovery) => Change::RecoveryEnds(recovery.left),
-        Running::ErasesChip(erase) => Change::BlockDone(Finish {
-            after: erase.left,
-            at: erase.hand,
-        }),
     }
 }
 
-// Its cost is the list's, a turn for each block that is still to come.
+#[tactic(auto, unfolding(crate::specs::Remaining::until_end))]
 pub fn until_end(part: Part, operation: Operation) -> u64
     requires { Fits part operation }
     ensures { result ≡ until_end part (running_of operation) }
 {
-    let running = operations::running_of(operation);
-    match running {
+    match operations::running_of(operation) {
         Running::Still => 0,
         Running::Programs(program) => program.left,
         Running::Waits(erase) => {
             let full = figures::erase_time(part);
-            let rest = rest_of(part, erase, full);
-            rest + full
+            rest_of(part, erase, full) + full
         }
         Running::Erases(erase) => rest_of(part, erase, figures::erase_time(part)),
         Running::Recovers(recovery) => recovery.left,
@@ -87,16 +78,16 @@ fn rest_of(part: Part, erase: Erase, full: u64) -> u64
     ensures value { result ≡ erase.left + to_come part erase.list erase.hand * full }
     ensures full_bound { result + full < 2 ^ 64 }
 {
-    let list = erase.list;
-    erase.left + to_come(part, list, erase.hand) * full
+    erase.left + to_come(part, erase.list, erase.hand) * full
 }
 
-// How many listed blocks lie above the one in hand.
+// How many listed blocks lie above the one in hand. It goes from listed block to listed block, and not over every number as a range would:
+// its cost is the list's, a turn for each block that is still to come.
 fn to_come(part: Part, list: Blocks, hand: usize) -> u64
     requires { hand < block_count part }
     ensures { result ≡ to_come part list hand }
 {
-    let mut count: u64 = 0;
+    let mut count = 0;
     let mut at = list.first_from(hand + 1);
     while at < part.blocks() {
         count += 1;

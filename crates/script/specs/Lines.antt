@@ -20,16 +20,16 @@ abbrev pub released : Line → Item
 released l = if l.held then next_item l.item 13 else l.item
 
 -- "items are separated by blanks or tabs"
-unfoldable pub separates_items : (byte : ℕ) → Bool
+abbrev pub separates_items : (byte : ℕ) → Bool
 separates_items b = eqb b 32 || eqb b 9
 
-unfoldable pub read_on : Form → Item → (byte room : ℕ) → Line
+abbrev pub read_on : Form → Item → (byte room : ℕ) → Line
 read_on form i b room =
     if eqb b 13 then line form i true
     else if separates_items b then line (taken_form form i room) no_item false
     else line form (next_item i b) false
 
-unfoldable pub read_words : Form → Item → (byte : ℕ) (words : List ℕ) → List ℕ
+abbrev pub read_words : Form → Item → (byte : ℕ) (words : List ℕ) → List ℕ
 read_words form i b words =
     if eqb b 13 then words
     else if separates_items b then taken_words form i words

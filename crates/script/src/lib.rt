@@ -4,7 +4,7 @@
 
 ghost use Rattle.std.specs.Prelude.{◌≡◌, length};
 ghost use Rattle.language.specs.Orders.{Within};
-ghost use Rattle.script.specs.Lines.{no_line, fed_line, fed_words, ended_order, ended_words, read_on, read_words, separates_items};
+ghost use Rattle.script.specs.Lines.{no_line, fed_line, fed_words, ended_order, ended_words};
 
 mod orders;
 
@@ -33,61 +33,44 @@ pub fn begin() -> Line
 }
 
 // The line with one byte more. "A CR before [the LF] is ignored": any other is a byte like any other.
+#[tactic(auto, unfolding(crate::specs::Lines::fed_line, crate::specs::Lines::fed_words))]
 pub fn fed(line: Line, byte: u8, words: &mut [u16]) -> Line
     ensures value { result ≡ fed_line line byte (length words.old) }
     ensures words_after { words.new ≡ fed_words line byte words.old }
 {
     let form = line.form;
-    let item = line.item;
-    if line.held {
-        return read(form, spelling::next(item, b'\r'), byte, words);
+    let item = if line.held {
+        spelling::next(line.item, b'\r')
+    } else {
+        line.item
+    };
+    match byte {
+        b'\r' => Line {
+            form,
+            item,
+            held: true,
+        },
+        // "Items are separated by blanks or tabs."
+        b' ' | b'\t' => Line {
+            form: forms::taken(form, item, words),
+            item: spelling::nothing(),
+            held: false,
+        },
+        _ => Line {
+            form,
+            item: spelling::next(item, byte),
+            held: false,
+        },
     }
-    read(form, item, byte, words)
 }
 
 // What the line asks for: the LF or the end of the input is here.
+#[tactic(auto, using(crate::proofs::Within::order_within), unfolding(crate::specs::Lines::ended_order, crate::specs::Lines::ended_words))]
 pub fn ended(line: Line, words: &mut [u16]) -> Order
     ensures value { result ≡ ended_order line (length words.old) }
     ensures words_after { words.new ≡ ended_words line words.old }
     ensures within { Within result (length words.old) }
 {
-    let form = line.form;
-    let item = line.item;
-    let whole = forms::taken(form, item, words);
+    let whole = forms::taken(line.form, line.item, words);
     orders::order_of(whole, words.len())
-}
-
-fn read(form: Form, item: Item, byte: u8, words: &mut [u16]) -> Line
-    ensures value { result ≡ read_on form item byte (length words.old) }
-    ensures words_after { words.new ≡ read_words form item byte words.old }
-{
-    if byte == b'\r' {
-        return Line {
-            form: form,
-            item: item,
-            held: true,
-        };
-    }
-    if separates(byte) {
-        return Line {
-            form: forms::taken(form, item, words),
-            item: spelling::nothing(),
-            held: false,
-        };
-    }
-    Line {
-        form: form,
-        item: spelling::next(item, byte),
-        held: false,
-    }
-}
-
-// "Items are separated by blanks or tabs."
-fn separates(byte: u8) -> bool
-    ensures { result ≡ separates_items byte }
-{
-    if byte == b' ' {
-        return true;
-    }
-    byte == b'\t'
 }

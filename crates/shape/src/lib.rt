@@ -7,55 +7,44 @@ ghost use Rattle.layout.specs.Image.{marked, well_formed, idle_words};
 mod forms;
 mod sections;
 
+use layout::RECORD_WORDS;
+
 // Do the words stand for a record? Whether that record is sound is another question.
+#[tactic(auto, unfolding(layout::specs::Image::well_formed, layout::specs::Image::marked), using(std::proofs::lemmas::Bool::Decides::nat_tests))]
 pub fn is_well_formed(words: &[u64]) -> bool
     ensures { result ≡ well_formed words.now }
 {
-    if !is_marked(words) {
+    let Some(record) = words.as_array() else {
         return false;
-    }
-    if !forms::command_fits(words[layout::COMMAND_AT], words[layout::PLACE_AT]) {
-        return false;
-    }
-    if !forms::operation_fits(words) {
-        return false;
-    }
-    if !forms::recovery_fits(words) {
-        return false;
-    }
-    forms::entered_fits(words)
+    };
+    is_marked(record)
+        && forms::command_fits(record[layout::COMMAND_AT], record[layout::PLACE_AT])
+        && forms::operation_fits(record)
+        && forms::recovery_fits(record)
+        && forms::entered_fits(record)
 }
 
 // Do they stand for an idle device? It is asked first at each event, as the most common case.
+#[tactic(auto, unfolding(layout::specs::Image::idle_words))]
 pub fn is_idle(words: &[u64]) -> bool
     ensures { result ≡ idle_words words.now }
 {
-    if !is_marked(words) {
+    let Some(record) = words.as_array() else {
         return false;
-    }
+    };
     // The numbers of a command and of an operation first: they tell nearly every device that is not idle.
-    if !sections::are_unused(words, layout::COMMAND_AT, layout::LIST_AT) {
-        return false;
-    }
-    if !sections::are_unused(words, layout::LIST_AT, layout::DYB_AT) {
-        return false;
-    }
-    sections::are_unused(words, layout::RECOVERY_AT, layout::SEALED_AT)
+    is_marked(record)
+        && sections::are_unused(record, layout::COMMAND_AT, layout::LIST_AT)
+        && sections::are_unused(record, layout::LIST_AT, layout::DYB_AT)
+        && sections::are_unused(record, layout::RECOVERY_AT, layout::SEALED_AT)
 }
 
-// As many words as a record has, with the layout's number, and one bit for each lock.
+// Words of a record have the layout's number, and one bit for each lock.
 #[tactic(auto, unfolding(layout::specs::Image::marked))]
-fn is_marked(words: &[u64]) -> bool
+fn is_marked(words: &[u64; RECORD_WORDS]) -> bool
     ensures { result ≡ marked words.now }
 {
-    if words.len() != layout::RECORD_WORDS {
-        return false;
-    }
-    if words[layout::LAYOUT_AT] != layout::LAYOUT {
-        return false;
-    }
-    if 2 <= words[layout::LOCK_AT] {
-        return false;
-    }
-    words[layout::SEALED_AT] < 2
+    words[layout::LAYOUT_AT] == layout::LAYOUT
+        && words[layout::LOCK_AT] < 2
+        && words[layout::SEALED_AT] < 2
 }

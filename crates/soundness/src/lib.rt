@@ -28,47 +28,30 @@ pub fn fresh() -> Device
 }
 
 // Judged at every event, so without a loop over the blocks.
+#[tactic(auto, unfolding(plain::specs::Sound::sound, plain::specs::Sound::operation_sound))]
 pub fn is_sound(part: Part, device: Device) -> bool
     ensures { result ≡ sound part device }
 {
-    let meter = device.meter;
-    if !meter_sound(part, meter) {
-        return false;
-    }
-    let bits = device.bits;
-    if bits.has_stray(part) {
-        return false;
-    }
-    let operation = device.operation;
-    if !operations::is_idle(operation) {
-        // Taken out anew, so that what an idle device has no use for is not taken out above.
-        let under_way = device.operation;
-        let protection = device.bits;
-        if !underway::operation_sound(part, protection, under_way) {
-            return false;
-        }
-    }
-    let command = device.command;
-    standing::command_sound(part, operation, command)
+    meter_sound(part, device.meter)
+        && !device.bits.has_stray(part)
+        && (operations::is_idle(device.operation)
+            || underway::operation_sound(part, device.bits, device.operation))
+        && standing::command_sound(part, device.operation, device.command)
 }
 
 // The same of an idle device at ground, by all there is to it.
+#[tactic(auto, unfolding(plain::specs::Sound::sound))]
 pub fn is_sound_idle(part: Part, meter: Meter, bits: Protection) -> bool
     ensures { result ≡ sound part (device meter Ground Idle bits) }
 {
-    if !meter_sound(part, meter) {
-        return false;
-    }
-    !bits.has_stray(part)
+    meter_sound(part, meter) && !bits.has_stray(part)
 }
 
 // "the clock is at most the limit; charge is at most" the running current for all of it: in this order, so that the product fits.
+#[tactic(auto, unfolding(plain::specs::Sound::meter_sound))]
 fn meter_sound(part: Part, meter: Meter) -> bool
     ensures { result ≡ meter_sound part meter }
 {
-    if figures::clock_limit(part) < meter.clock {
-        return false;
-    }
-    let current = figures::running_current(part);
-    meter.charge <= current * meter.clock
+    meter.clock <= figures::clock_limit(part)
+        && meter.charge <= figures::running_current(part) * meter.clock
 }

@@ -1,4 +1,5 @@
 // A range of words of a device in any state, told by where it lies: nothing is copied and nothing changes, and C reads it there.
+// Its answer is C's number: a refusal, an array and an address in one, where a Result of the two would be packed at once.
 #![tactic(auto)]
 
 ghost use Rattle.std.specs.Prelude.{◌≡◌};
@@ -16,10 +17,10 @@ pub fn range(
 ) -> u64
     ensures { result ≡ face_range part words.now cells.now otp.now first count }
 {
-    if !calls::stands(part, words) {
+    let Some(record) = calls::record(part, words) else {
         return calls::packed_range(Refusal::State, Array::Main, 0);
-    }
-    let device = image::device_of(words);
+    };
+    let device = image::device_of(record);
     let refusal = ranging::refusal(calls::part_named(part), device, cells, otp, first, count);
     let operation = device.operation;
     calls::packed_range(refusal, ranging::array(operation, first), first)

@@ -1,8 +1,7 @@
 -- An item, byte by byte, as the reader keeps it.
-use Rattle.std.specs.Prelude.{ℕ, ◌+◌, ◌*◌, Bool, false, eqb, ltb}
+use Rattle.std.specs.Prelude.{ℕ, ◌+◌, ◌*◌, Bool, false, Option, Some, None, eqb, ltb}
 use Rattle.std.specs.Prelude.{if◌then◌else◌}
 use Rattle.spelling.specs.declared.numbers.Number.{Number}
-use Rattle.language.specs.declared.Value.{Value}
 use Rattle.spelling.specs.declared.Item.{Item}
 use Rattle.spelling.specs.declared.Times.{Times}
 use Rattle.spelling.specs.declared.Words.{Words}
@@ -23,12 +22,12 @@ unfoldable pub remarks_on : (letters : ℕ) (remark : Bool) (byte : ℕ) → Boo
 remarks_on letters remark byte = if eqb letters 1 then eqb byte 35 else remark
 
 -- a number as the N of `N*W`, "N at most 16384"
-unfoldable pub counted_by : Value → Times
-counted_by Value.Absent = Times.Wrong
-counted_by (Value.Of n) = if ltb 16384 n then Times.Wrong else Times.Of n
+unfoldable pub counted_by : Option ℕ → Times
+counted_by None = Times.Wrong
+counted_by (Some n) = if ltb 16384 n then Times.Wrong else Times.Of n
 
 -- a `*` behind a number
-unfoldable pub starred_by : Times → Value → Times
+unfoldable pub starred_by : Times → Option ℕ → Times
 starred_by Times.Once number = counted_by number
 starred_by (Times.Of n) number = Times.Wrong
 starred_by Times.Wrong number = Times.Wrong
@@ -41,26 +40,29 @@ next_item i b =
     else item (spelt_on i.letters b) (remarks_on i.letters i.remark b) i.times (next_number i.number b)
 
 -- the item as a number, which nothing repeats
-unfoldable pub unrepeated : Times → Value → Value
+unfoldable pub unrepeated : Times → Option ℕ → Option ℕ
 unrepeated Times.Once number = number
-unrepeated (Times.Of n) number = Value.Absent
-unrepeated Times.Wrong number = Value.Absent
+unrepeated (Times.Of n) number = None
+unrepeated Times.Wrong number = None
 
-abbrev pub number_of : Item → Value
+abbrev pub number_of : Item → Option ℕ
 number_of i = unrepeated i.times (value_of i.number)
 
+abbrev pub some_words : (times word : ℕ) → Option Words
+some_words times word = Some (record { times = times; word = word })
+
 -- the item as words, W or `N*W`, "a word at most FFFFH"
-unfoldable pub words_by : Times → (value : ℕ) → Words
-words_by Times.Once value = Words.Of 1 value
-words_by (Times.Of n) value = Words.Of n value
-words_by Times.Wrong value = Words.Wrong
+unfoldable pub words_by : Times → (value : ℕ) → Option Words
+words_by Times.Once value = some_words 1 value
+words_by (Times.Of n) value = some_words n value
+words_by Times.Wrong value = None
 
-unfoldable pub repeated_by : Times → (value : ℕ) → Words
-repeated_by times value = if ltb 0xffff value then Words.Wrong else words_by times value
+unfoldable pub repeated_by : Times → (value : ℕ) → Option Words
+repeated_by times value = if ltb 0xffff value then None else words_by times value
 
-unfoldable pub as_words : Times → Value → Words
-as_words times Value.Absent = Words.Wrong
-as_words times (Value.Of value) = repeated_by times value
+unfoldable pub as_words : Times → Option ℕ → Option Words
+as_words times None = None
+as_words times (Some value) = repeated_by times value
 
-abbrev pub words_of : Item → Words
+abbrev pub words_of : Item → Option Words
 words_of i = as_words i.times (value_of i.number)

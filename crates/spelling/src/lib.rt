@@ -3,11 +3,10 @@
 #![tactic(auto)]
 
 ghost use Rattle.std.specs.Prelude.{◌≡◌};
-ghost use Rattle.spelling.specs.Items.{no_item, next_item, number_of, words_of, repeated_by, starred_by, counted_by, spelt_on, remarks_on};
+ghost use Rattle.spelling.specs.Items.{no_item, next_item, number_of, words_of, starred_by, spelt_on, remarks_on};
 
 mod numbers;
 
-use language::Value;
 pub use numbers::Number;
 
 #[derive(Clone, Copy)]
@@ -31,9 +30,9 @@ pub enum Times {
 
 // An item as words: how many times which.
 #[derive(Clone, Copy)]
-pub enum Words {
-    Wrong,
-    Of(u64, u16),
+pub struct Words {
+    pub times: u64,
+    pub word: u16,
 }
 
 // No byte yet.
@@ -48,107 +47,76 @@ pub fn nothing() -> Item
     }
 }
 
+#[tactic(auto, unfolding(crate::specs::Items::next_item))]
 pub fn next(item: Item, byte: u8) -> Item
     ensures { result ≡ next_item item byte }
 {
-    let times = item.times;
-    let number = item.number;
     let letters = spelt(item.letters, byte);
     let remark = remarks(item.letters, item.remark, byte);
     if byte == b'*' {
         return Item {
-            letters: letters,
-            remark: remark,
-            times: starred(times, numbers::value_of(number)),
+            letters,
+            remark,
+            times: starred(item.times, numbers::value_of(item.number)),
             number: Number::Nothing,
         };
     }
     Item {
-        letters: letters,
-        remark: remark,
-        times: times,
-        number: numbers::next(number, byte),
+        letters,
+        remark,
+        times: item.times,
+        number: numbers::next(item.number, byte),
     }
 }
 
 // The item as a number, which nothing repeats.
-pub fn number_of(item: Item) -> Value
+#[tactic(auto, unfolding(crate::specs::Items::unrepeated))]
+pub fn number_of(item: Item) -> Option<u64>
     ensures { result ≡ number_of item }
 {
-    let times = item.times;
-    let number = item.number;
-    match times {
-        Times::Once => numbers::value_of(number),
-        Times::Of(_) => Value::Absent,
-        Times::Wrong => Value::Absent,
+    match item.times {
+        Times::Once => numbers::value_of(item.number),
+        Times::Of(_) | Times::Wrong => None,
     }
 }
 
-// The item as words, W or `N*W`.
-pub fn words_of(item: Item) -> Words
+// The item as words, W or `N*W`: "a word at most FFFFH".
+#[tactic(auto, unfolding(crate::specs::Items::as_words, crate::specs::Items::repeated_by, crate::specs::Items::words_by))]
+pub fn words_of(item: Item) -> Option<Words>
     ensures { result ≡ words_of item }
 {
-    let times = item.times;
-    let number = item.number;
-    match numbers::value_of(number) {
-        Value::Absent => Words::Wrong,
-        Value::Of(value) => repeated(times, value),
-    }
-}
-
-// "A word at most FFFFH."
-fn repeated(times: Times, value: u64) -> Words
-    ensures { result ≡ repeated_by times value }
-{
-    if 0xffff < value {
-        return Words::Wrong;
-    }
-    match times {
-        Times::Once => Words::Of(1, value as u16),
-        Times::Of(n) => Words::Of(n, value as u16),
-        Times::Wrong => Words::Wrong,
+    let word = u16::try_from(numbers::value_of(item.number)?).ok()?;
+    match item.times {
+        Times::Once => Some(Words { times: 1, word }),
+        Times::Of(times) => Some(Words { times, word }),
+        Times::Wrong => None,
     }
 }
 
 // A `*` behind a number: the first of the item, "N at most 16384".
-fn starred(times: Times, number: Value) -> Times
+#[tactic(auto, unfolding(crate::specs::Items::starred_by, crate::specs::Items::counted_by))]
+fn starred(times: Times, number: Option<u64>) -> Times
     ensures { result ≡ starred_by times number }
 {
-    match times {
-        Times::Once => counted(number),
-        Times::Of(_) => Times::Wrong,
-        Times::Wrong => Times::Wrong,
+    match (times, number) {
+        (Times::Once, Some(n)) if n <= 16384 => Times::Of(n),
+        _ => Times::Wrong,
     }
 }
 
-fn counted(number: Value) -> Times
-    ensures { result ≡ counted_by number }
-{
-    match number {
-        Value::Absent => Times::Wrong,
-        Value::Of(n) => {
-            if 16384 < n {
-                return Times::Wrong;
-            }
-            Times::Of(n)
-        }
-    }
-}
-
+#[tactic(auto, unfolding(crate::specs::Items::spelt_on))]
 fn spelt(letters: u64, byte: u8) -> u64
     ensures { result ≡ spelt_on letters byte }
 {
     if 0xffffffffffff < letters {
         return letters;
     }
-    letters * 256 + (byte as u64)
+    letters * 256 + u64::from(byte)
 }
 
+#[tactic(auto, unfolding(crate::specs::Items::remarks_on))]
 fn remarks(letters: u64, remark: bool, byte: u8) -> bool
     ensures { result ≡ remarks_on letters remark byte }
 {
-    if letters == 1 {
-        return byte == b'#';
-    }
-    remark
+    if letters == 1 { byte == b'#' } else { remark }
 }

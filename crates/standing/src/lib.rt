@@ -9,6 +9,7 @@ mod cycles;
 use geometry::Part;
 use plain::{Command, Cycle, Operation, Suspension};
 
+#[tactic(auto, unfolding(plain::specs::Sound::command_sound))]
 pub fn command_sound(part: Part, operation: Operation, command: Command) -> bool
     ensures { result ≡ command_sound part operation command }
 {
@@ -19,17 +20,15 @@ pub fn command_sound(part: Part, operation: Operation, command: Command) -> bool
 }
 
 // "no command is half entered and no identity or 58H reading is on while an operation runs"
+#[tactic(auto, unfolding(plain::specs::Sound::is_ground))]
 fn is_ground(command: Command) -> bool
     ensures { result ≡ is_ground command }
 {
-    match command {
-        Command::Ground => true,
-        Command::Entering(_) => false,
-        Command::Reads(_) => false,
-    }
+    matches!(command, Command::Ground)
 }
 
 // While nothing runs.
+#[tactic(auto, unfolding(plain::specs::Sound::still_command))]
 fn still_command(part: Part, suspension: Suspension, command: Command) -> bool
     ensures { result ≡ still_command part suspension command }
 {
@@ -40,6 +39,7 @@ fn still_command(part: Part, suspension: Suspension, command: Command) -> bool
     }
 }
 
+#[tactic(auto, unfolding(plain::specs::Sound::cycle_sound))]
 fn cycle_sound(part: Part, suspension: Suspension, cycle: Cycle) -> bool
     ensures { result ≡ cycle_sound part suspension cycle }
 {

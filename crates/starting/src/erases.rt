@@ -16,7 +16,7 @@ pub fn chip_erase(part: Part, bits: Protection) -> Effect
         return Effect::Falls(Refusal::Protected);
     }
     Effect::Starts(Operation::ChipErasing(Erase {
-        list: list,
+        list,
         hand: list.first_from(0),
         left: figures::chip_time(part),
         dq6: false,

@@ -5,7 +5,7 @@ ghost use Rattle.std.specs.Prelude.{◌≡◌};
 ghost use Rattle.plain.specs.Commands.{resumes, after_a0, after_80_unlocked};
 ghost use Rattle.plain.specs.Lent.{lent};
 
-use cycles::{is_cycle, resets};
+use cycles::resets;
 use geometry::Part;
 use operations::selected;
 use plain::{Effect, Operation, Refusal, Suspension};
@@ -19,19 +19,20 @@ use erases::{block_erase, chip_erase};
 use programming::{begins, keeps_out, started};
 
 // "In suspension 30H at any address resumes from ground"
+#[tactic(auto, unfolding(plain::specs::Commands::resumes))]
 pub fn resumes(suspension: Suspension) -> Effect
     ensures { result ≡ resumes suspension }
 {
     match suspension {
-        Suspension::Unsuspended => Effect::Falls(Refusal::Sequence),
+        Suspension::Unsuspended | Suspension::Entered => Effect::Falls(Refusal::Sequence),
         Suspension::OfProgram(program) => Effect::Starts(Operation::Programming(program)),
         Suspension::OfErase(erase) => Effect::Starts(Operation::Erasing(erase)),
-        Suspension::Entered => Effect::Falls(Refusal::Sequence),
     }
 }
 
 // A0H, then a data cycle, where F0H is data: "address and all 16 data bits of a program". "RAISE, after PROTECTED and SUSPENDED";
 // "OTPLOCKED, in the place of PROTECTED".
+#[tactic(auto, unfolding(plain::specs::Commands::after_a0))]
 pub fn after_a0(
     part: Part,
     bits: Protection,
@@ -57,6 +58,7 @@ pub fn after_a0(
 }
 
 // "10H at 555H (chip erase) or 30H at any address of a block (block erase)"
+#[tactic(auto, unfolding(plain::specs::Commands::after_80_unlocked))]
 pub fn after_80_unlocked(
     part: Part,
     bits: Protection,
@@ -66,15 +68,10 @@ pub fn after_80_unlocked(
 ) -> Effect
     ensures { result ≡ after_80_unlocked part bits suspension address word }
 {
-    let code = word % 256;
-    if code == 0xf0 {
-        return resets(suspension);
+    match word % 256 {
+        0xf0 => resets(suspension),
+        0x10 if address % 2048 == 0x555 => chip_erase(part, bits),
+        0x30 => block_erase(part, bits, part.block_of(address)),
+        _ => Effect::Falls(Refusal::Sequence),
     }
-    if is_cycle(address, word, 0x555, 0x10) {
-        return chip_erase(part, bits);
-    }
-    if code == 0x30 {
-        return block_erase(part, bits, part.block_of(address));
-    }
-    Effect::Falls(Refusal::Sequence)
 }

@@ -7,21 +7,19 @@ use plain::{Inside, Operation, Program, SuspendedErase, Suspension, Written, fig
 use programs::block_written;
 
 // Is it "a program into a listed block"? A suspended program lets none begin.
+#[tactic(auto, unfolding(plain::specs::Commands::keeps_out))]
 pub fn keeps_out(part: Part, suspension: Suspension, written: Written) -> bool
     ensures { result ≡ keeps_out part suspension written }
 {
     match suspension {
-        Suspension::Unsuspended => false,
+        Suspension::Unsuspended | Suspension::Entered => false,
         Suspension::OfProgram(_) => true,
-        Suspension::OfErase(erase) => {
-            let list = erase.list;
-            list.has(block_written(part, written))
-        }
-        Suspension::Entered => false,
+        Suspension::OfErase(erase) => erase.list.has(block_written(part, written)),
     }
 }
 
 // "a program works inside a suspended erase"; so it does in the one-time block
+#[tactic(auto, unfolding(plain::specs::Commands::begins))]
 pub fn begins(suspension: Suspension, program: Program) -> Operation
     ensures { result ≡ begins suspension program }
 {
@@ -29,7 +27,7 @@ pub fn begins(suspension: Suspension, program: Program) -> Operation
         Suspension::Unsuspended => Operation::Programming(program),
         Suspension::OfProgram(resting) => Operation::ProgramSuspended(resting),
         Suspension::OfErase(erase) => Operation::EraseSuspended(SuspendedErase {
-            erase: erase,
+            erase,
             inside: Inside::Runs(program),
         }),
         Suspension::Entered => Operation::OneTimeProgramming(program),

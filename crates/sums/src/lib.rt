@@ -11,6 +11,7 @@ pub struct Sums {
 }
 
 // "S1 and S2 start at 0 and for each cell, in rising address, .."
+#[tactic(auto, unfolding(crate::specs::Sums::summed))]
 pub fn sums_of(cells: &[u16]) -> Sums
     ensures { result ≡ sums_of cells.now }
 {
@@ -18,10 +19,8 @@ pub fn sums_of(cells: &[u16]) -> Sums
         first: 0,
         second: 0,
     };
-    let mut at: usize = 0;
-    while at < cells.len() {
-        sums = with_cell(sums, cells[at]);
-        at += 1;
+    for &cell in cells {
+        sums = with_cell(sums, cell);
     }
     sums
 }
@@ -31,9 +30,9 @@ fn with_cell(sums: Sums, cell: u16) -> Sums
     requires { (sums.first < 65521) × (sums.second < 65521) }
     ensures { result ≡ with_cell sums cell }
 {
-    let first = (sums.first + (cell as u64)) % 65521;
+    let first = (sums.first + u64::from(cell)) % 65521;
     Sums {
-        first: first,
+        first,
         second: (sums.second + first) % 65521,
     }
 }

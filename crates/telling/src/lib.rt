@@ -1,154 +1,120 @@
-// The lines of answers: each function puts its line into a lent buffer from `at` on, and gives the place behind it.
+// The lines of answers: each function puts its line on a page, behind what is there.
 #![tactic(auto)]
 
-ghost use Rattle.std.specs.Prelude.{◌+◌, ◌≤◌, length};
-ghost use Rattle.printing.specs.Put.{Put};
-ghost use Rattle.printing.specs.Text.{item};
+ghost use Rattle.std.specs.Prelude.{◌≡◌, ◌≤◌, length};
+ghost use Rattle.printing.specs.Page.{HasRoom, Adds};
 ghost use Rattle.telling.specs.Lines.{event_line, malformed_line, block_line, word_name, word_line, array_name, two_sums, range_line, end_line};
 
+use meter::Meter;
 use plain::{Array, Refusal};
+use printing::Page;
+use sums::Sums;
 
-pub fn event(
-    out: &mut [u8],
-    at: usize,
-    line: u64,
-    refusal: Refusal,
-    word: u16,
-    clock: u64,
-    charge: u64,
-) -> usize
-    requires { at + 99 ≤ length out.old }
-    ensures put { Put out.old at out.new result (event_line line refusal word clock charge) }
-    ensures upper_bound { result ≤ at + 99 }
+#[tactic(auto, unfolding(crate::specs::Lines::event_line))]
+pub fn event(page: &mut Page, line: u64, refusal: Refusal, word: u16, meter: Meter)
+    requires { HasRoom page.old 99 }
+    ensures { Adds page.old page.new (event_line line refusal word meter.clock meter.charge) 99 }
 {
-    let mut end = printing::decimal(out, at, line);
-    end = printing::number(out, end, answers::number_of(refusal));
-    end = refusals::name(out, end, refusal);
-    end = printing::word(out, end, word);
-    end = printing::number(out, end, clock);
-    end = printing::number(out, end, charge);
-    printing::bytes(out, end, b"\n")
+    let Meter { clock, charge } = meter;
+    page.decimal(line);
+    page.number(answers::number_of(refusal));
+    page.item(refusals::name(refusal));
+    page.word(word);
+    page.number(clock);
+    page.number(charge);
+    page.bytes(b"\n");
 }
 
-pub fn malformed(out: &mut [u8], at: usize, line: u64) -> usize
-    requires { at + 31 ≤ length out.old }
-    ensures put { Put out.old at out.new result (malformed_line line) }
-    ensures upper_bound { result ≤ at + 31 }
+#[tactic(auto, unfolding(crate::specs::Lines::malformed_line))]
+pub fn malformed(page: &mut Page, line: u64)
+    requires { HasRoom page.old 31 }
+    ensures { Adds page.old page.new (malformed_line line) 31 }
 {
-    let end = printing::decimal(out, at, line);
-    printing::bytes(out, end, b" malformed\n")
+    page.decimal(line);
+    page.bytes(b" malformed\n");
 }
 
-pub fn block(out: &mut [u8], at: usize, line: u64, block: usize, first: usize, last: usize) -> usize
-    requires { at + 90 ≤ length out.old }
-    ensures put { Put out.old at out.new result (block_line line block first last) }
-    ensures upper_bound { result ≤ at + 90 }
+#[tactic(auto, unfolding(crate::specs::Lines::block_line))]
+pub fn block(page: &mut Page, line: u64, block: usize, first: usize, last: usize)
+    requires { HasRoom page.old 90 }
+    ensures { Adds page.old page.new (block_line line block first last) 90 }
 {
-    let mut end = printing::decimal(out, at, line);
-    end = printing::bytes(out, end, b" block");
-    end = printing::number(out, end, block as u64);
-    end = printing::number(out, end, first as u64);
-    end = printing::number(out, end, last as u64);
-    printing::bytes(out, end, b"\n")
+    page.decimal(line);
+    page.bytes(b" block");
+    page.number(block as u64);
+    page.number(first as u64);
+    page.number(last as u64);
+    page.bytes(b"\n");
 }
 
 // A word that a cut exposed.
-pub fn word(
-    out: &mut [u8],
-    at: usize,
-    line: u64,
-    array: Array,
-    address: usize,
-    before: u16,
-    after: u16,
-) -> usize
-    requires { at + 57 ≤ length out.old }
-    ensures put { Put out.old at out.new result (word_line line array address before after) }
-    ensures upper_bound { result ≤ at + 57 }
+#[tactic(auto, unfolding(crate::specs::Lines::word_line))]
+pub fn word(page: &mut Page, line: u64, array: Array, address: usize, before: u16, after: u16)
+    requires { HasRoom page.old 57 }
+    ensures { Adds page.old page.new (word_line line array address before after) 57 }
 {
-    let mut end = printing::decimal(out, at, line);
-    end = word_name(out, end, array);
-    end = printing::number(out, end, address as u64);
-    end = printing::word(out, end, before);
-    end = printing::word(out, end, after);
-    printing::bytes(out, end, b"\n")
+    page.decimal(line);
+    page.item(word_name(array));
+    page.number(address as u64);
+    page.word(before);
+    page.word(after);
+    page.bytes(b"\n");
 }
 
-// `s1` and `s2` are the two sums over the range's words.
-pub fn range(
-    out: &mut [u8],
-    at: usize,
-    line: u64,
-    array: Array,
-    first: usize,
-    count: usize,
-    s1: u64,
-    s2: u64,
-) -> usize
-    requires { at + 110 ≤ length out.old }
-    ensures put { Put out.old at out.new result (range_line line array first count s1 s2) }
-    ensures upper_bound { result ≤ at + 110 }
+// `sums` are those over the range's words.
+#[tactic(auto, unfolding(crate::specs::Lines::range_line))]
+pub fn range(page: &mut Page, line: u64, array: Array, first: usize, count: usize, sums: Sums)
+    requires { HasRoom page.old 110 }
+    ensures { Adds page.old page.new (range_line line array first count sums.first sums.second) 110 }
 {
-    let mut end = printing::decimal(out, at, line);
-    end = array_name(out, end, array);
-    end = printing::number(out, end, first as u64);
-    end = printing::number(out, end, count as u64);
-    end = two_sums(out, end, s1, s2);
-    printing::bytes(out, end, b"\n")
+    page.decimal(line);
+    page.item(array_name(array));
+    page.number(first as u64);
+    page.number(count as u64);
+    two_sums(page, sums);
+    page.bytes(b"\n");
 }
 
-// `s1` and `s2` are the two sums over the cells, `o1` and `o2` those over the one-time words.
-pub fn end(
-    out: &mut [u8],
-    at: usize,
-    clock: u64,
-    charge: u64,
-    s1: u64,
-    s2: u64,
-    o1: u64,
-    o2: u64,
-) -> usize
-    requires { at + 130 ≤ length out.old }
-    ensures put { Put out.old at out.new result (end_line clock charge s1 s2 o1 o2) }
-    ensures upper_bound { result ≤ at + 130 }
+// `cells` are the sums over the cells, `otp` those over the one-time words.
+#[tactic(auto, unfolding(crate::specs::Lines::end_line))]
+pub fn end(page: &mut Page, meter: Meter, cells: Sums, otp: Sums)
+    requires { HasRoom page.old 130 }
+    ensures { Adds page.old page.new (end_line meter.clock meter.charge cells.first cells.second otp.first otp.second) 130 }
 {
-    let mut behind = printing::bytes(out, at, b"end");
-    behind = printing::number(out, behind, clock);
-    behind = printing::number(out, behind, charge);
-    behind = two_sums(out, behind, s1, s2);
-    behind = two_sums(out, behind, o1, o2);
-    printing::bytes(out, behind, b"\n")
+    page.bytes(b"end");
+    page.number(meter.clock);
+    page.number(meter.charge);
+    two_sums(page, cells);
+    two_sums(page, otp);
+    page.bytes(b"\n");
 }
 
-// A blank, and what an exposed word of the array is called.
-fn word_name(out: &mut [u8], at: usize, array: Array) -> usize
-    requires { at + 5 ≤ length out.old }
-    ensures put { Put out.old at out.new result (item (word_name array)) }
-    ensures upper_bound { result ≤ at + 5 }
+// What an exposed word of the array is called.
+fn word_name(array: Array) -> &'static [u8]
+    ensures value { result.now ≡ word_name array }
+    ensures upper_bound { length result.now ≤ 4 }
 {
     match array {
-        Array::Main => printing::bytes(out, at, b" word"),
-        Array::OneTime => printing::bytes(out, at, b" otp"),
+        Array::Main => b"word",
+        Array::OneTime => b"otp",
     }
 }
 
-// A blank, and what the array is called as that of a range.
-fn array_name(out: &mut [u8], at: usize, array: Array) -> usize
-    requires { at + 5 ≤ length out.old }
-    ensures put { Put out.old at out.new result (item (array_name array)) }
-    ensures upper_bound { result ≤ at + 5 }
+// What the array is called as that of a range.
+fn array_name(array: Array) -> &'static [u8]
+    ensures value { result.now ≡ array_name array }
+    ensures upper_bound { length result.now ≤ 4 }
 {
     match array {
-        Array::Main => printing::bytes(out, at, b" main"),
-        Array::OneTime => printing::bytes(out, at, b" otp"),
+        Array::Main => b"main",
+        Array::OneTime => b"otp",
     }
 }
 
-fn two_sums(out: &mut [u8], at: usize, first: u64, second: u64) -> usize
-    requires { at + 42 ≤ length out.old }
-    ensures put { Put out.old at out.new result (two_sums first second) }
-    ensures upper_bound { result ≤ at + 42 }
+fn two_sums(page: &mut Page, sums: Sums)
+    requires { HasRoom page.old 42 }
+    ensures { Adds page.old page.new (two_sums sums.first sums.second) 42 }
 {
-    let end = printing::number(out, at, first);
-    printing::number(out, end, second)
+    page.number(sums.first);
+    page.number(sums.second);
 }

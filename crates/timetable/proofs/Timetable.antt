@@ -27,7 +27,7 @@ use Rattle.plain.proofs.Quick.{quick_ticks, quick_ladder, quick_step, quick_run,
 use Rattle.plain.proofs.QuickSound.{some_at, some_of, quick_only, quick_list, quick_chip_list, quick_operation, quick_sound, quick_entry}
 use Rattle.remaining.specs.Remaining.{change_of, counted, to_come, until_end}
 use Rattle.judged.specs.Foreseen.{end_now, change_now, debris_now}
-use Rattle.outlook.specs.Foreseen.{figure_number, change_time, change_block, change_word, change_array}
+use Rattle.outlook.specs.Foreseen.{change_time, change_block, change_word, change_array}
 use Rattle.timetable.specs.Timetable.{Told, tells, Moment, blank, found, chip, erase, one_time, unsound, AsForeseen}
 
 are-whole : is_whole Small blank ≡ true
@@ -63,7 +63,7 @@ unfolding has pack set_of some seek programmed cells.raises erased
     begun_block begun_inside begun_program block_debris program_debris debris_needed
     climbed some_at some_of quick_only quick_list quick_chip_list quick_operation quick_sound quick_entry quick_ladder
     inside_due due_of inside_less less drifted leap ticks quick_ticks quick_step quick_run
-    change_of counted to_come until_end end_now change_now debris_now figure_number change_time change_block change_word change_array
+    change_of counted to_come until_end end_now change_now debris_now change_time change_block change_word change_array
 computed = record { chips = refl; erases = refl; in_one_time = refl; unsounds = refl }
 
 -- a chip erase of 270 blocks

@@ -40,13 +40,13 @@ clear_of list bits inside may h =
     shuffled true false false = refl
 
 module _ (p : Part) (list : Blocks) (bits : Protection) where
-  pub in-bank : (hand : ℕ) → not (meets_of list (union_of (protected_blocks bits) (outside_bank p (bank_of_block p hand)))) ≡ only_those (may_erase p bits hand) list
-  in-bank hand =
+  pub in_bank : (hand : ℕ) → not (meets_of list (union_of (protected_blocks bits) (outside_bank p (bank_of_block p hand)))) ≡ only_those (may_erase p bits hand) list
+  in_bank hand =
       clear_of list bits (λ b. ltb b (block_count p) && eqb (bank_of_block p b) (bank_of_block p hand)) (may_erase p bits hand)
       (λ b. and_assoc (ltb b (block_count p)) (eqb (bank_of_block p b) (bank_of_block p hand)) (not (protected bits b)))
 
-  pub in-part : not (meets_of list (union_of (protected_blocks bits) (strangers p))) ≡ only_those (may_chip_erase p bits) list
-  in-part = clear_of list bits (λ b. ltb b (block_count p)) (may_chip_erase p bits) (λ b. refl)
+  pub in_part : not (meets_of list (union_of (protected_blocks bits) (strangers p))) ≡ only_those (may_chip_erase p bits) list
+  in_part = clear_of list bits (λ b. ltb b (block_count p)) (may_chip_erase p bits) (λ b. refl)
 
 -- ---- a listed block is the lowest if the list starts with it
 

@@ -6,6 +6,7 @@ ghost use Rattle.plain.specs.Lent.{lent};
 ghost use Rattle.plain.specs.Time.{moment, ticks};
 ghost use Rattle.moments.specs.Moments.{Passable, moved};
 
+use erasing::Kind;
 use geometry::Part;
 use meter::Meter;
 use moments::Moved;
@@ -26,24 +27,16 @@ pub fn pass(
     ensures otp_after { otp.new ≡ (ticks part n (moment meter operation (lent cells.old otp.old))).lent.otp }
 {
     match operation {
-        Operation::Idle => Moved {
+        Operation::Idle | Operation::ProgramSuspended(_) | Operation::InOneTime => Moved {
             meter: moments::stood_by(part, meter, n),
-            operation: operation,
+            operation,
         },
         Operation::Programming(q) => programming::pass_program(part, meter, q, cells, otp, n),
-        Operation::ProgramSuspended(_) => Moved {
-            meter: moments::stood_by(part, meter, n),
-            operation: operation,
-        },
         Operation::Window(e) => erasing::pass_window(part, meter, e, cells, otp, n),
-        Operation::Erasing(e) => erasing::pass_erase(part, false, meter, e, cells, otp, n),
+        Operation::Erasing(e) => erasing::pass_erase(part, Kind::Block, meter, e, cells, otp, n),
         Operation::Recovering(r) => recovering::pass_recovery(part, meter, r, n),
         Operation::EraseSuspended(s) => programming::pass_suspended(part, meter, s, cells, otp, n),
-        Operation::ChipErasing(e) => erasing::pass_erase(part, true, meter, e, cells, otp, n),
-        Operation::InOneTime => Moved {
-            meter: moments::stood_by(part, meter, n),
-            operation: operation,
-        },
+        Operation::ChipErasing(e) => erasing::pass_erase(part, Kind::Chip, meter, e, cells, otp, n),
         Operation::OneTimeProgramming(q) => programming::pass_one_time(
             part, meter, q, cells, otp, n,
         ),

@@ -1,5 +1,6 @@
 use mathlib.Core.Path.{sym, ◌∙◌}
 use borrow.Author.Rules.{rules}
+use Rattle.std.proofs.lemmas.Result.{err_from_is_err_and}
 use Rattle.plain.proofs.EventLaws.{read-barred}
 use Rattle.plain.proofs.Ladder.{admitted}
 use Rattle.answers.proofs.Outcomes.{answers}
@@ -9,14 +10,10 @@ use Rattle.access.proofs.read.Goals as goal
 pub admitted_read-requires : goal.admitted_read-requires
 unfolding sighted
 admitted_read-requires c =
-    admitted _ _ _ (sym (c.entry-entry.ensures _ c.is_sound.ensures) ∙ c.in-Admitted.is)
+    admitted _ _ _ (sym (c.entry.ensures _ c.is_sound.ensures) ∙ c.in_ok-entry.was)
 
-pub returns-in-Barred : goal.returns-in-Barred
+pub returns-in_err-entry : goal.returns-in_err-entry
 unfolding sighted
-returns-in-Barred c =
-    answers (read-barred _ _ _ _ _ (sym (c.entry-entry.ensures _ c.is_sound.ensures) ∙ c.in-Barred.is))
-
-pub returns-in-Admitted : goal.returns-in-Admitted
-unfolding sighted
-returns-in-Admitted c =
-    search rules
+returns-in_err-entry c =
+    let p = err_from_is_err_and c.from_residual.result c.from_residual.ensures.1 in
+    rw (p.1, p.2) (answers (read-barred _ _ _ _ _ (sym (c.entry.ensures _ c.is_sound.ensures) ∙ c.in_err-entry.was)))

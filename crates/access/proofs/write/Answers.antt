@@ -9,14 +9,14 @@ use Rattle.access.proofs.write.Goals as goal
 pub admitted_write-requires : goal.admitted_write-requires
 unfolding effected
 admitted_write-requires c =
-    admitted _ _ _ (sym (c.entry-entry.ensures _ c.is_sound.ensures) ∙ c.in-Admitted.is)
+    admitted _ _ _ (sym (c.entry.ensures _ c.is_sound.ensures) ∙ c.in-Ok.is)
 
-pub returns-in-Barred : goal.returns-in-Barred
+pub returns-in-Err : goal.returns-in-Err
 unfolding effected
-returns-in-Barred c =
-    answers (write-barred _ _ _ _ _ _ (sym (c.entry-entry.ensures _ c.is_sound.ensures) ∙ c.in-Barred.is))
+returns-in-Err c =
+    answers (write-barred _ _ _ _ _ _ (sym (c.entry.ensures _ c.is_sound.ensures) ∙ c.in-Err.is))
 
-pub returns-in-Admitted : goal.returns-in-Admitted
+pub returns-in-Ok : goal.returns-in-Ok
 unfolding effected
-returns-in-Admitted c =
+returns-in-Ok c =
     search rules

@@ -1,22 +1,25 @@
-use mathlib.Core.Path.{sym, ap, ◌∙◌}
-use borrow.Author.Rules.{rules}
+use mathlib.Core.Path.{refl, ap}
 use Rattle.judged.proofs.Laws.{is-so, unsound}
-use Rattle.face.specs.Face.{Faced}
+use Rattle.plain.specs.Refusals.{number}
 use Rattle.face.proofs.Faces.{told, well, whole, write-none, write-some}
 use Rattle.bus.proofs.write.Goals as goal
 
 pub returns-then-not-stands : goal.returns-then-not-stands
 returns-then-not-stands c =
-    let same = write-none _ _ _ _ _ _ (unsound _ _ c.stands.ensures c.if-not-stands.true) in record { value = c.number_of.ensures ∙ sym (ap (λ (f : Faced). f.refusal) same); words_after = sym (ap (λ (f : Faced). f.image) same) }
+    rw (write-none _ _ _ _ _ _ (unsound _ _ c.stands.ensures c.if-not-stands.true)) (record { refusal = refl; words_after = refl })
 
-pub device_of-device-requires : goal.device_of-device-requires
-device_of-device-requires c =
-    whole _ _ (is-so _ _ c.stands.ensures c.if-not-stands.false)
+pub unwrap-record-requires : goal.unwrap-record-requires
+unwrap-record-requires c =
+    c.as_mut_array.ensures.variant.1 (whole _ _ (is-so _ _ c.stands.ensures c.if-not-stands.false))
 
 pub put_effect-requires : goal.put_effect-requires
 put_effect-requires c =
-    well _ _ (is-so _ _ c.stands.ensures c.if-not-stands.false)
+    let found = rw c.unwrap-record.ensures at c.as_mut_array.ensures.cases in
+    rw found.same (well _ _ (is-so _ _ c.stands.ensures c.if-not-stands.false))
 
 pub returns : goal.returns
 returns c =
-    let same = told _ _ _ (write-some _ _ _ _ _ _ (is-so _ _ c.stands.ensures c.if-not-stands.false)) (rw (c.part_named.ensures, c.device_of-device.ensures) at c.write-effect.ensures) in record { value = c.put_effect.ensures.value ∙ sym (ap (λ (f : Faced). f.refusal) same); words_after = c.put_effect.ensures.words_after ∙ sym (ap (λ (f : Faced). f.image) same) }
+    let so = is-so _ _ c.stands.ensures c.if-not-stands.false in
+    let found = rw c.unwrap-record.ensures at c.as_mut_array.ensures.cases in
+    let stored = rw found.same at c.put_effect.ensures in
+    rw (told _ _ _ (write-some _ _ _ _ _ _ so) (rw (c.part_named.ensures, c.device_of-device.ensures, found.same) at c.write-effect.ensures)) (record { refusal = ap number stored.refusal; words_after = stored.words_after })

@@ -1,7 +1,6 @@
 use mathlib.Core.Path.{sym, ◌∙◌}
 use native.Mathlib.Omega.{arith}
 use borrow.Author.Tests.{ne_eqb}
-use borrow.Author.Rules.{rules}
 use Rattle.plain.proofs.Refusals.{number-below}
 use Rattle.face.proofs.Ranges.{two-arrays}
 use Rattle.calls.proofs.packed_range.Goals as goal

@@ -1,8 +1,6 @@
 use mathlib.Core.Path.{sym, ap, ◌∙◌}
-use borrow.Author.Tests.{not-true, not-false}
 use Rattle.geometry.specs.Parts.{word_count}
 use Rattle.idling.proofs.Idle.{not_sound, not-whole, not-whole-otp, goes_in}
-use borrow.Author.Rules.{rules}
 use Rattle.idling.proofs.entry.Goals as goal
 
 pub returns-then-not-is_sound : goal.returns-then-not-is_sound

@@ -1,22 +1,15 @@
-use mathlib.Core.Path.{sym, ◌∙◌}
-use borrow.Author.Tests.{not-true, not-false}
-use Rattle.layout.proofs.Idle.{idle-whole}
+use mathlib.Core.Path.{sym}
+use Rattle.layout.proofs.Idle.{idle_whole}
 use Rattle.idling.proofs.Idle.{no_part, a-part}
-use borrow.Author.Rules.{rules}
 use Rattle.idling.proofs.is_sound.Goals as goal
 
-pub returns-then-not-is_part : goal.returns-then-not-is_part
-returns-then-not-is_part c =
-    sym (no_part _ _ c.requires (sym c.is_part.ensures ∙ c.if-not-is_part.true))
+pub returns-in_default : goal.returns-in_default
+returns-in_default c = sym (no_part _ _ c.requires c.in_default.ensures)
 
-pub meter_of-meter-requires : goal.meter_of-meter-requires
-meter_of-meter-requires c =
-    idle-whole _ c.requires
-
-pub bits_of-bits-requires : goal.bits_of-bits-requires
-bits_of-bits-requires c =
-    idle-whole _ c.requires
+pub unwrap-record-requires : goal.unwrap-record-requires
+unwrap-record-requires c = c.as_array.ensures.variant.1 (idle_whole _ c.requires)
 
 pub returns : goal.returns
 returns c =
-    rw (c.part_named.ensures, c.meter_of-meter.ensures, c.bits_of-bits.ensures) at c.is_sound_idle.ensures ∙ sym (a-part _ _ c.requires (sym c.is_part.ensures ∙ c.if-not-is_part.false))
+    let found = rw c.unwrap-record.ensures at c.as_array.ensures.cases in
+    rw (a-part _ _ c.requires c.in-Some.ensures.0) (rw (c.in-Some.ensures.1, c.meter_of.ensures, c.bits_of.ensures, found.same) at c.is_sound_idle.ensures)

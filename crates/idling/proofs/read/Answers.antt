@@ -1,18 +1,22 @@
-use mathlib.Core.Path.{sym, ap, ◌∙◌}
-use Rattle.face.specs.Face.{Faced, packed}
+use mathlib.Core.Path.{sym, ◌∙◌}
+use native.Mathlib.Omega.{arith}
+use Rattle.std.proofs.lemmas.Grind.{common_steps}
 use Rattle.face.proofs.Faces.{read-barred}
 use Rattle.idling.proofs.Idle.{read-address, read_cell}
-use borrow.Author.Rules.{rules}
+use Rattle.std.proofs.lemmas.Bool.Decides.{nat_tests}
+use Rattle.std.proofs.Common.{◌<◌, ◌≤◌, length}
 use Rattle.idling.proofs.read.Goals as goal
 
-pub returns-then-cells-address : goal.returns-then-cells-address
-returns-then-cells-address c =
-    let same = read-address _ _ c.requires _ _ (sym c.entry-entry.ensures ∙ c.in-Admitted.is) _ c.if-cells-address.true in record { value = c.packed-then-cells-address.ensures ∙ sym (ap (λ (f : Faced). packed f) same); address_value = ap (λ (f : Faced). f.image) same }
+pub returns-in_err-entry : goal.returns-in_err-entry
+returns-in_err-entry c =
+    rw (read-barred _ _ _ _ _ _ (sym c.entry.ensures ∙ c.in_err-entry.was)) (grind (arith, common_steps))
 
-pub returns-in-Barred : goal.returns-in-Barred
-returns-in-Barred c =
-    let same = read-barred _ _ _ _ _ _ (sym c.entry-entry.ensures ∙ c.in-Barred.is) in record { value = c.packed.ensures ∙ sym (ap (λ (f : Faced). packed f) same); address_value = ap (λ (f : Faced). f.image) same }
+pub returns-in-Some : goal.returns-in-Some
+returns-in-Some c =
+    let inside : c.args.address < length c.args.cells.now = grind (arith, common_steps, nat_tests) in
+    rw (read_cell _ _ c.requires _ _ (sym c.entry.ensures ∙ c.in_ok-entry.was) _ inside) (grind (arith, common_steps))
 
-pub returns-else-cells-address : goal.returns-else-cells-address
-returns-else-cells-address c =
-    let same = read_cell _ _ c.requires _ _ (sym c.entry-entry.ensures ∙ c.in-Admitted.is) _ c.if-cells-address.false in record { value = c.packed-in-Admitted.ensures ∙ sym (ap (λ (f : Faced). packed f) same); address_value = ap (λ (f : Faced). f.image) same }
+pub returns-in-None : goal.returns-in-None
+returns-in-None c =
+    let past : length c.args.cells.now ≤ c.args.address = grind (arith, common_steps, nat_tests) in
+    rw (read-address _ _ c.requires _ _ (sym c.entry.ensures ∙ c.in_ok-entry.was) _ past) (grind (arith, common_steps))

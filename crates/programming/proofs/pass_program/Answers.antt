@@ -1,21 +1,18 @@
 use mathlib.Core.Path.{◌∙◌}
-use borrow.Author.Rules.{rules}
-use Rattle.programming.proofs.Laws.{alone-facts, program-goes-on, program-ends}
+use Rattle.plain.proofs.Facts.{programming}
+use Rattle.programming.proofs.Laws.{told, passed-alone}
 use Rattle.programming.proofs.pass_program.Goals as goal
 
-pub ran-requires : goal.ran-requires
-ran-requires c =
-    c.requires.room
-
-pub returns-then-n-left : goal.returns-then-n-left
-returns-then-n-left c =
-    let done = program-goes-on _ _ _ _ _ c.if-n-left.true in record { value = rw (c.with_left.ensures, c.ran.ensures) done.result; cells_after = done.exit.0; otp_after = done.exit.1 }
-
-pub end_program-requires : goal.end_program-requires
-end_program-requires c =
-    let fit = c.requires in record { room = fit.room; whole = (fit.whole, (alone-facts _ _ _ _ _ fit).in-part); left_le_n = c.if-n-left.false }
+pub run-left-requires-clause-whole : goal.run-left-requires-clause-whole
+run-left-requires-clause-whole c =
+    (c.requires.whole, (programming _ _ _ c.requires.sound).in-part)
 
 pub returns : goal.returns
 returns c =
-    let done = program-ends _ _ _ _ _ (alone-facts _ _ _ _ _ c.requires).some_left c.if-n-left.false in
-    let end = c.end_program.ensures in record { value = rw end.value done.result; cells_after = end.cells_after ∙ done.exit.0; otp_after = end.otp_after ∙ done.exit.1 }
+    let done = passed-alone _ _ _ _ _ c.requires in
+    let ran = c.run-left.ensures in
+    record {
+      value = rw (ran.meter, told _ _ _ _ c.map_or.ensures, ran.left) done.result;
+      cells_after = ran.cells_after ∙ done.exit.0;
+      otp_after = ran.otp_after ∙ done.exit.1;
+    }

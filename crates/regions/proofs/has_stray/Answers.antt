@@ -1,4 +1,3 @@
-use borrow.Author.Rules.{rules}
 use Rattle.regions.proofs.Laws.{stray-is}
 use Rattle.regions.proofs.has_stray.Goals as goal
 

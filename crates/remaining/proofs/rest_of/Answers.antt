@@ -1,6 +1,5 @@
 use mathlib.Core.Path.{refl}
 use native.Mathlib.Omega.{arith}
-use borrow.Author.Rules.{rules}
 use Rattle.remaining.proofs.Counting.{rest-fits, rest-sums}
 use Rattle.remaining.proofs.rest_of.Goals as goal
 

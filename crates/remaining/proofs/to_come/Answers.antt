@@ -1,10 +1,9 @@
 -- At each turn what has been counted and what is still listed from here on make the whole.
-use Prim.Native.Nat.{◌+◌, ◌-◌}
+use Prim.Native.Nat.{◌+◌}
 use native.Mathlib.Omega.{arith}
-use borrow.Author.Rules.{rules}
 use Rattle.blocks.proofs.Lowest.{first-from}
 use Rattle.geometry.proofs.Counts.{blocks-most}
-use Rattle.remaining.proofs.Counting.{Counting, count-begins, count-goes-on, count_most, count-ends}
+use Rattle.remaining.proofs.Counting.{count-begins, count-goes-on, count_most, count-ends}
 use Rattle.remaining.proofs.to_come.Goals as goal
 
 pub overflow_add-hand : goal.overflow_add-hand
@@ -18,10 +17,6 @@ loop-at-init c =
 pub overflow_add-count : goal.overflow_add-count
 overflow_add-count c =
     omega (arith, count_most _ _ c.loop-at.invariant)
-
-pub overflow_add-at : goal.overflow_add-at
-overflow_add-at c =
-    omega (arith, c.loop-at-test.true, c.blocks-in-loop-at.ensures, blocks-most c.args.part)
 
 pub loop-at-smaller : goal.loop-at-smaller
 loop-at-smaller c =

@@ -1,39 +1,13 @@
 -- `Blocks::first_from` meets its contract. At each turn the lowest number from `at` on is the one from n on.
 use borrow.Author.Rules.{rules}
-use Prim.Native.Nat.{◌-◌}
-use mathlib.Core.Path.{◌≡◌, refl, sym, ◌∙◌}
-use native.Mathlib.Omega.{arith}
-use Rattle.blocks.specs.Blocks.{has, first_from}
+use mathlib.Core.Path.{sym, ◌∙◌}
+use Rattle.blocks.specs.Blocks.{has}
 use Rattle.blocks.proofs.Lowest.{first-skip, first_found, seek-end}
 use Rattle.blocks.proofs.Blocks.first_from.Goals as goal
-
-pub loop-at-init : goal.loop-at-init
-loop-at-init c =
-    refl
-
-pub overflow_cast-result : goal.overflow_cast-result
-overflow_cast-result c =
-    omega (arith, (first_found c.args.self c.loop-at.at c.word_at.result c.word_at.ensures (search rules) c.loop-at-test.true c.if-x-ne0.true).1)
-
-pub overflow_add-result : goal.overflow_add-result
-overflow_add-result c =
-    omega (arith, (first_found c.args.self c.loop-at.at c.word_at.result c.word_at.ensures (search rules) c.loop-at-test.true c.if-x-ne0.true).1)
 
 pub returns-then-x-ne0 : goal.returns-then-x-ne0
 returns-then-x-ne0 c =
     sym (first_found c.args.self c.loop-at.at c.word_at.result c.word_at.ensures (search rules) c.loop-at-test.true c.if-x-ne0.true).0 ∙ c.loop-at.invariant
-
-pub overflow_add-at : goal.overflow_add-at
-overflow_add-at c =
-    omega arith
-
-pub overflow_mul-at : goal.overflow_mul-at
-overflow_mul-at c =
-    omega arith
-
-pub loop-at-smaller : goal.loop-at-smaller
-loop-at-smaller c =
-    omega arith
 
 pub loop-at-preserved : goal.loop-at-preserved
 loop-at-preserved c =

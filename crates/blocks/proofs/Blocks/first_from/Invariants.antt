@@ -1,9 +1,6 @@
-use borrow.Author.Rules.{rules}
 use Prim.Native.Nat.{◌-◌}
-use mathlib.Core.Path.{◌≡◌, refl, sym, ◌∙◌}
-use native.Mathlib.Omega.{arith}
-use Rattle.blocks.specs.Blocks.{has, first_from}
-use Rattle.blocks.proofs.Lowest.{first-skip, first_found, seek-end}
+use mathlib.Core.Path.{◌≡◌}
+use Rattle.blocks.specs.Blocks.{first_from}
 use Rattle.blocks.proofs.Blocks.first_from.Given as goal
 
 abbrev pub invariant-loop-at : goal.invariant-loop-at

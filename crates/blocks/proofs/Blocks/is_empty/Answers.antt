@@ -1,7 +1,8 @@
-use Rattle.blocks.proofs.Words.{known}
+use borrow.Author.Rules.{rules}
+use Rattle.blocks.proofs.Words.{fits}
 use Rattle.blocks.proofs.Made.{none_is}
 use Rattle.blocks.proofs.Blocks.is_empty.Goals as goal
 
 pub returns : goal.returns
 returns c =
-    none_is _ (known _ c.struct_known-4-1.given)
+    none_is _ (search (rules, fits))

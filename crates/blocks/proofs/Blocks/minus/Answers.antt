@@ -1,7 +1,8 @@
-use Rattle.blocks.proofs.Words.{known}
+use borrow.Author.Rules.{rules}
+use Rattle.blocks.proofs.Words.{fits}
 use Rattle.blocks.proofs.Made.{minus_is}
 use Rattle.blocks.proofs.Blocks.minus.Goals as goal
 
 pub returns : goal.returns
 returns c =
-    minus_is _ _ (known _ c.struct_known-15-1.given) (known _ c.struct_known-14-1.given)
+    minus_is _ _ (search (rules, fits)) (search (rules, fits))

@@ -12,4 +12,4 @@ returns c =
     let s = c.args.self in
     let n = c.args.n in
     rw (c.put_at.ensures, c.word_at-x.ensures, one-mul, mod-eq_of_lt (pow-lt {i = n % 64} {j = 64} (omega arith)))
-    (with-is s n (fits s (search rules) (search rules) (search rules) (search rules) (search rules)))
+    (with-is s n (search (rules, fits)))

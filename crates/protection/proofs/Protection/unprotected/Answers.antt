@@ -1,4 +1,3 @@
-use borrow.Author.Rules.{rules}
 use Rattle.protection.proofs.Laws.{unprotected-is}
 use Rattle.protection.proofs.Protection.unprotected.Goals as goal
 

@@ -1,8 +1,0 @@
-use mathlib.Core.Path.{sym}
-use lib.ListN.{get_or-eq_default}
-use borrow.Author.Rules.{rules}
-use Rattle.exceptions.proofs.nth.Goals as goal
-
-pub returns : goal.returns
-returns c =
-    sym (get_or-eq_default c.args.words.now 0 c.if-at-words.false)

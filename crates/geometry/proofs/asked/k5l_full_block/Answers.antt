@@ -1,6 +1,0 @@
-use borrow.Author.Rules.{rules}
-use Rattle.geometry.proofs.asked.k5l_full_block.Goals as goal
-
-pub returns : goal.returns
-returns c =
-    rw (c.block_asked.ensures, c.full.ensures)
