@@ -11,7 +11,7 @@ use meter::Meter;
 use plain::{Answer, Command, Device, Operation, Refusal};
 use protection::Protection;
 
-// "A refused read, and every event that is no read, gives the word 0."
+// "A refused read, and every event that is no read, gives the word 0." One literal, as is `done`: a function for both would be it again.
 pub fn refused(refusal: Refusal, device: Device) -> Answer
     ensures { result ≡ answer refusal 0 device }
 {

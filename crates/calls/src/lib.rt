@@ -20,7 +20,7 @@ pub fn is_part(part: u64) -> bool
     part < 2
 }
 
-// The part of that number, if there is one.
+// The part of that number, if there is one. No TryFrom: `Part` is of a crate that knows nothing of C's numbers.
 pub fn part(part: u64) -> Option<Part>
     ensures { MatchOption result (is_part part ≡ false) (λ p. (is_part part ≡ true) × (p ≡ part_named part)) }
 {
@@ -94,7 +94,7 @@ pub fn number_or_none(answer: Option<u64>) -> u64
     answer.unwrap_or(NONE)
 }
 
-// "refusal << 33 | array << 32 | first word, the latter two 0 if it is refused"
+// "refusal << 33 | array << 32 | first word, the latter two 0 if it is refused": C's number, whose parts stand side by side.
 pub fn packed_range(refusal: Refusal, array: Array, first: usize) -> u64
     requires { number refusal ≡ 0 → first < 4294967296 }
     ensures { result ≡ packed_range (number refusal) array first }

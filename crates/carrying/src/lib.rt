@@ -40,7 +40,7 @@ fn is_carriable(stored: &[u64]) -> bool
     }
 }
 
-// Past the end of what is stored they are 0.
+// Past the end of what is stored they are 0. Place by place: the proof of a `fill` and a `copy_from_slice` of a part is longer.
 fn copy(stored: &[u64], words: &mut [u64; RECORD_WORDS])
     ensures { words.new ≡ section stored.now 0 record_words }
 {

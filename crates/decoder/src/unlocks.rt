@@ -31,7 +31,7 @@ pub fn first_unlock(suspension: Suspension, address: usize, word: u16, next: Cyc
     reset_or_sequence(suspension, word)
 }
 
-// The second, 2AAH/55H.
+// The second, 2AAH/55H. Not one for both: it would be told whether its write is here, a test that each caller would make.
 pub fn second_unlock(suspension: Suspension, address: usize, word: u16, next: Cycle) -> Effect
     ensures { result ≡ (if second_unlock address word then Goes (Entering next) else or_reset suspension word (Falls Sequence)) }
 {

@@ -7,7 +7,7 @@ ghost use Rattle.printing.specs.Page.{HasRoom, Adds};
 ghost use Rattle.exceptions.specs.Exceptions.{block_lines, word_lines, word_in};
 
 use geometry::Part;
-use plain::{Array, Spot};
+use plain::Spot;
 use printing::Page;
 
 #[tactic(auto, using(crate::proofs::Blocks::block_end), unfolding(crate::specs::Exceptions::block_lines))]
@@ -45,10 +45,7 @@ pub fn word_at(cells: &[u16], otp: &[u16], spot: Option<Spot>) -> u16
     match spot {
         None => 0,
         Some(spot) => {
-            let words = match spot.array {
-                Array::Main => cells,
-                Array::OneTime => otp,
-            };
+            let words = spot.array.among(cells, otp);
             words.get(spot.at).copied().unwrap_or(0)
         }
     }

@@ -21,7 +21,7 @@ pub enum Verb {
     Otp,
 }
 
-// The words that a line sets.
+// The words that a line sets. Not the arrays of `plain`: the language knows nothing of the device.
 #[derive(Clone, Copy)]
 pub enum Target {
     Cells,

@@ -9,7 +9,7 @@ pub mod asked;
 mod runs;
 
 // One of the two parts: there is no other value.
-#[derive(Clone, Copy, PartialEq, Eq)]
+#[derive(Clone, Copy)]
 pub enum Part {
     Small,
     Full,

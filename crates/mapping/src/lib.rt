@@ -28,6 +28,7 @@ fn reading_in(command: Command, bank: usize) -> bool
     }
 }
 
+// Of a whole bank: `reading` asks of an address, whose bank two of the three readings have no use for.
 #[tactic(auto, unfolding(crate::specs::Mapped::given_in))]
 fn given_in(reading: Reading, bank: usize) -> bool
     ensures { result ≡ given_in reading bank }

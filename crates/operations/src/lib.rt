@@ -25,7 +25,8 @@ pub fn running_of(operation: Operation) -> Running
     }
 }
 
-// "a second operation is only a program inside a suspended erase, and that program runs"
+// "a second operation is only a program inside a suspended erase, and that program runs". On its own, as a pattern for a program in
+// two places would copy it.
 #[tactic(auto, unfolding(plain::specs::Operations::running_inside))]
 fn running_inside(inside: Inside) -> Running
     ensures { result ≡ running_inside inside }

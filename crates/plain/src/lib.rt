@@ -1,6 +1,9 @@
 // The record of a device and its answers: the types that the plain machine of specs/ is written over.
 #![tactic(auto)]
 
+ghost use Rattle.std.specs.Prelude.{◌≡◌};
+ghost use Rattle.plain.specs.Lent.{lent, array_of};
+
 pub mod figures;
 
 use blocks::Blocks;
@@ -32,6 +35,18 @@ pub enum Refusal {
 pub enum Array {
     Main,
     OneTime,
+}
+
+impl Array {
+    // The words that it names, of the two arrays that are lent.
+    pub fn among<'a>(self, cells: &'a [u16], otp: &'a [u16]) -> &'a [u16]
+        ensures { result.now ≡ array_of self (lent cells.now otp.now) }
+    {
+        match self {
+            Array::Main => cells,
+            Array::OneTime => otp,
+        }
+    }
 }
 
 // What a program writes: "address and all 16 data bits", in one of the arrays. Who asks of it goes by Programs, and takes it apart
@@ -120,7 +135,7 @@ pub enum Suspension {
 }
 
 // The command register.
-#[derive(Clone, Copy, PartialEq, Eq)]
+#[derive(Clone, Copy)]
 pub enum Command {
     Ground,
     Entering(Cycle),
@@ -128,7 +143,7 @@ pub enum Command {
 }
 
 // A command that is half entered: the cycle that was taken last.
-#[derive(Clone, Copy, PartialEq, Eq)]
+#[derive(Clone, Copy)]
 pub enum Cycle {
     Unlock,
     Unlocked,
@@ -144,7 +159,7 @@ pub enum Cycle {
 }
 
 // A reading that is on: identity in a bank, 58H, or the status of the customer's lock.
-#[derive(Clone, Copy, PartialEq, Eq)]
+#[derive(Clone, Copy)]
 pub enum Reading {
     Identity(usize),
     Dybs,

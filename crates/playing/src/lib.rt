@@ -36,7 +36,7 @@ pub fn fresh() -> Replay
     }
 }
 
-// Replays the next part of the input: "lines end with LF".
+// Replays the next part of the input: "lines end with LF". The buffer is lent as it is: `ReplayAnswers` of audit/specs speaks of this call.
 #[tactic(auto, unfolding(crate::specs::Runs::run_over, crate::specs::Runs::told_over))]
 pub fn replayed(
     mut replay: Replay,

@@ -73,6 +73,7 @@ pub fn polled(part: Part, operation: Operation, address: usize) -> Operation
     }
 }
 
+// On its own, too.
 #[tactic(auto, unfolding(plain::specs::Status::inside_polled))]
 fn inside_polled(inside: Inside) -> Inside
     ensures { result ≡ inside_polled inside }

@@ -93,10 +93,7 @@ pub fn dq7(written: Written) -> bool
 pub fn raises(written: Written, cells: &[u16], otp: &[u16]) -> bool
     ensures { result ≡ raises written (lent cells.now otp.now) }
 {
-    let words = match written.array {
-        Array::Main => cells,
-        Array::OneTime => otp,
-    };
+    let words = written.array.among(cells, otp);
     cells::raises(words, written.at, written.word)
 }
 

@@ -10,7 +10,7 @@ ghost use Rattle.ranging.specs.Ranged.{ranged};
 use geometry::Part;
 use plain::{Array, Device, Operation, Refusal, figures};
 
-// STATE and CELLS as of every event, then ADDRESS and BUSY.
+// STATE and CELLS as of every event, then ADDRESS and BUSY; else DONE: audit/specs (`Asks`, `Ranges`) speaks of this answer.
 pub fn refusal(
     part: Part,
     device: Device,
@@ -79,18 +79,9 @@ pub fn range<'a>(
     ensures { result.now ≡ range_words part device (lent cells.now otp.now) first count }
 {
     let answer = refusal(part, device, cells, otp, first, count);
-    let words = select(array(device.operation, first), cells, otp);
+    let words = array(device.operation, first).among(cells, otp);
     if answer != Refusal::Done {
         return &words[..0];
     }
     &words[first..first + count]
-}
-
-fn select<'a>(array: Array, cells: &'a [u16], otp: &'a [u16]) -> &'a [u16]
-    ensures { result.now ≡ array_of array (lent cells.now otp.now) }
-{
-    match array {
-        Array::Main => cells,
-        Array::OneTime => otp,
-    }
 }

@@ -39,7 +39,7 @@ pub fn is_sound(part: Part, device: Device) -> bool
         && standing::command_sound(part, device.operation, device.command)
 }
 
-// The same of an idle device at ground, by all there is to it.
+// The same of an idle device at ground, by all there is to it: an idle event takes a fifth of the instructions of others by such ways.
 #[tactic(auto, unfolding(plain::specs::Sound::sound))]
 pub fn is_sound_idle(part: Part, meter: Meter, bits: Protection) -> bool
     ensures { result ≡ sound part (device meter Ground Idle bits) }

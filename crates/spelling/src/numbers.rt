@@ -62,7 +62,7 @@ fn grown(value: u64, base: u64, digit: u64) -> Option<u64>
     value.checked_mul(base)?.checked_add(digit)
 }
 
-// The value of a hexadecimal digit, in either case of its letter; 16 for every other byte.
+// The value of a hexadecimal digit, in either case of its letter; 16 for every other byte, as `digit_of` of the language has it.
 #[tactic(auto, unfolding(language::specs::Language::digit_of))]
 fn digit_of(byte: u8) -> u64
     ensures { result ≡ digit_of byte }

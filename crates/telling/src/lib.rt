@@ -100,7 +100,7 @@ fn word_name(array: Array) -> &'static [u8]
     }
 }
 
-// What the array is called as that of a range.
+// What the array is called as that of a range: the paper has two names for the cells, so this is not the one above.
 fn array_name(array: Array) -> &'static [u8]
     ensures value { result.now ≡ array_name array }
     ensures upper_bound { length result.now ≤ 4 }

@@ -17,22 +17,22 @@ pub overflow_add-result : goal.overflow_add-result
 unfolding range_words
 overflow_add-result c =
     let a = c.args in
-    omega (arith, range-fits a.part a.device (lent a.cells.now a.otp.now) a.first a.count c.refusal-answer.ensures refl (if_done _ (sym c.ne.ensures ∙ c.if-ne.false)) c.array.ensures c.select-words.ensures)
+    omega (arith, range-fits a.part a.device (lent a.cells.now a.otp.now) a.first a.count c.refusal-answer.ensures refl (if_done _ (sym c.ne.ensures ∙ c.if-ne.false)) c.array.ensures c.among-words.ensures)
 
 pub offset_bounds-words-first : goal.offset_bounds-words-first
 unfolding range_words
 offset_bounds-words-first c =
     let a = c.args in
-    omega (arith, range-fits a.part a.device (lent a.cells.now a.otp.now) a.first a.count c.refusal-answer.ensures refl (if_done _ (sym c.ne.ensures ∙ c.if-ne.false)) c.array.ensures c.select-words.ensures)
+    omega (arith, range-fits a.part a.device (lent a.cells.now a.otp.now) a.first a.count c.refusal-answer.ensures refl (if_done _ (sym c.ne.ensures ∙ c.if-ne.false)) c.array.ensures c.among-words.ensures)
 
 pub slice_bounds-result-end-2 : goal.slice_bounds-result-end-2
 unfolding range_words
 slice_bounds-result-end-2 c =
     let a = c.args in
-    omega (arith, range-fits a.part a.device (lent a.cells.now a.otp.now) a.first a.count c.refusal-answer.ensures refl (if_done _ (sym c.ne.ensures ∙ c.if-ne.false)) c.array.ensures c.select-words.ensures)
+    omega (arith, range-fits a.part a.device (lent a.cells.now a.otp.now) a.first a.count c.refusal-answer.ensures refl (if_done _ (sym c.ne.ensures ∙ c.if-ne.false)) c.array.ensures c.among-words.ensures)
 
 pub returns : goal.returns
 unfolding range_words
 returns c =
     let a = c.args in
-    rw (c.select-words.ensures, c.array.ensures, ← c.refusal-answer.ensures, if_done _ (sym c.ne.ensures ∙ c.if-ne.false), add-sub_cancel_left a.first a.count)
+    rw (c.among-words.ensures, c.array.ensures, ← c.refusal-answer.ensures, if_done _ (sym c.ne.ensures ∙ c.if-ne.false), add-sub_cancel_left a.first a.count)
