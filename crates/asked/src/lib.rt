@@ -1,4 +1,5 @@
-// What C asks of a record besides its four events. An idle device is asked by a way of its own, as the most common case.
+// What C asks of a record besides its four events. An idle device is asked by a way of its own, as the most common case; what several
+// questions share is inlined, so that this way hands nothing over in memory.
 #![tactic(auto)]
 
 ghost use Rattle.std.specs.Prelude.{◌≡◌, MatchOption, None, true, false};
@@ -9,6 +10,7 @@ ghost use Rattle.asked.specs.Asked.{face_exposed_block, face_exposed_word, face_
 use cutting::Exposed;
 use meter::Meter;
 
+#[inline(always)]
 pub fn is_sound(part: u64, words: &[u64]) -> bool
     ensures { result ≡ stands_sound part words.now }
 {
@@ -30,6 +32,7 @@ fn stands_sound(part: u64, words: &[u64]) -> bool
 }
 
 // What a cut would change if it came now.
+#[inline(always)]
 #[tactic(auto, unfolding(crate::specs::Asked::face_exposed_block, crate::specs::Asked::face_exposed_word, crate::specs::Asked::face_exposed_array, face::specs::Face::place_number, face::specs::Face::spot_number, face::specs::Face::spot_array), using(crate::proofs::Idle::no_block, crate::proofs::Idle::no_word, crate::proofs::Idle::no_array))]
 fn exposed(part: u64, words: &[u64]) -> Exposed
     ensures block { place_number result.block ≡ face_exposed_block part words.now }
@@ -115,6 +118,7 @@ fn gives_cells(part: u64, words: &[u64], bank: usize) -> bool
 }
 
 // The meter, of a sound device.
+#[inline(always)]
 #[tactic(auto, unfolding(layout::specs::Image::device_of), using(face::proofs::Faces::sound_whole))]
 fn meter(part: u64, words: &[u64]) -> Option<Meter>
     ensures { MatchOption result (stands_sound part words.now ≡ false) (λ m. (stands_sound part words.now ≡ true) × (m ≡ (device_of words.now).meter)) }

@@ -1,4 +1,5 @@
-// What C asks of what is to come. Of an idle device nothing is, and a cut needs no debris: it is told so by a way of its own.
+// What C asks of what is to come. Of an idle device nothing is, and a cut needs no debris: it is told so by a way of its own; what several
+// questions share is inlined, so that this way hands nothing over in memory.
 #![tactic(auto)]
 
 ghost use Rattle.std.specs.Prelude.{◌≡◌, None, Some, true};
@@ -65,6 +66,7 @@ fn idle_figure(part: u64, words: &[u64]) -> Option<u64>
 }
 
 // What the device changes next.
+#[inline(always)]
 #[tactic(auto, unfolding(crate::specs::Foreseen::face_until_change, crate::specs::Foreseen::face_changing_block, crate::specs::Foreseen::face_changing_word, crate::specs::Foreseen::face_changing_array, crate::specs::Foreseen::change_time, crate::specs::Foreseen::change_block, crate::specs::Foreseen::change_word, crate::specs::Foreseen::change_array), using(crate::proofs::Idle::no_change, crate::proofs::Idle::no_changing_block, crate::proofs::Idle::no_changing_word, crate::proofs::Idle::no_changing_array))]
 fn change(part: u64, words: &[u64]) -> Change
     ensures time { change_time result ≡ face_until_change part words.now }

@@ -40,7 +40,7 @@ abbrev pub in_block : Option Program → Operation
 in_block left = option_map_or OneTimeProgramming left InOneTime
 
 -- a suspended erase, by what goes on inside it
-inside_is : (s : SuspendedErase) (i : Inside) → s.inside ≡ i → EraseSuspended (suspended s.erase i) ≡ EraseSuspended s
+pub inside_is : (s : SuspendedErase) (i : Inside) → s.inside ≡ i → EraseSuspended (suspended s.erase i) ≡ EraseSuspended s
 inside_is s i e = ap (λ (x : Inside). EraseSuspended (suspended s.erase x)) (sym e)
 
 -- what `map_or` gives of it
@@ -51,7 +51,7 @@ told f (Some x) d r e = e
 -- ---- a wait while one runs
 
 module _ (p : Part) (m : Meter) (q : Program) (l : Lent) (n : ℕ) where
-  passed-in : (at : Option Program → Operation)
+  pub passed-in : (at : Option Program → Operation)
       → Running p (λ k. at (Some (program_left q k))) (running_current p) (at None) (finished q.writes)
       → Still p (at None) (standby_current p) → 1 ≤ q.left
       → Passed p n (moment m (at (Some q)) l) (moved (moment (drawn_by p m q n) (at (left_of q n)) l)) (lent_after q n l)

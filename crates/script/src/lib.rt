@@ -34,34 +34,24 @@ pub fn begin() -> Line
 
 // The line with one byte more. "A CR before [the LF] is ignored": any other is a byte like any other.
 #[tactic(auto, unfolding(crate::specs::Lines::fed_line, crate::specs::Lines::fed_words))]
-pub fn fed(line: Line, byte: u8, words: &mut [u16]) -> Line
+pub fn fed(mut line: Line, byte: u8, words: &mut [u16]) -> Line
     ensures value { result ≡ fed_line line byte (length words.old) }
     ensures words_after { words.new ≡ fed_words line byte words.old }
 {
-    let form = line.form;
-    let item = if line.held {
-        spelling::next(line.item, b'\r')
-    } else {
-        line.item
-    };
-    match byte {
-        b'\r' => Line {
-            form,
-            item,
-            held: true,
-        },
-        // "Items are separated by blanks or tabs."
-        b' ' | b'\t' => Line {
-            form: forms::taken(form, item, words),
-            item: spelling::nothing(),
-            held: false,
-        },
-        _ => Line {
-            form,
-            item: spelling::next(item, byte),
-            held: false,
-        },
+    if line.held {
+        line.item = spelling::next(line.item, b'\r');
+        line.held = false;
     }
+    match byte {
+        b'\r' => line.held = true,
+        // "Items are separated by blanks or tabs."
+        b' ' | b'\t' => {
+            line.form = forms::taken(line.form, line.item, words);
+            line.item = spelling::nothing();
+        }
+        _ => line.item = spelling::next(line.item, byte),
+    }
+    line
 }
 
 // What the line asks for: the LF or the end of the input is here.

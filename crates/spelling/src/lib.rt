@@ -48,25 +48,18 @@ pub fn nothing() -> Item
 }
 
 #[tactic(auto, unfolding(crate::specs::Items::next_item))]
-pub fn next(item: Item, byte: u8) -> Item
+pub fn next(mut item: Item, byte: u8) -> Item
     ensures { result ≡ next_item item byte }
 {
-    let letters = spelt(item.letters, byte);
-    let remark = remarks(item.letters, item.remark, byte);
+    item.remark = remarks(item.letters, item.remark, byte);
+    item.letters = spelt(item.letters, byte);
     if byte == b'*' {
-        return Item {
-            letters,
-            remark,
-            times: starred(item.times, numbers::value_of(item.number)),
-            number: Number::Nothing,
-        };
+        item.times = starred(item.times, numbers::value_of(item.number));
+        item.number = Number::Nothing;
+    } else {
+        item.number = numbers::next(item.number, byte);
     }
-    Item {
-        letters,
-        remark,
-        times: item.times,
-        number: numbers::next(item.number, byte),
-    }
+    item
 }
 
 // The item as a number, which nothing repeats.

@@ -70,7 +70,8 @@ fn window_sound(part: Part, bits: Protection, erase: Erase) -> bool
         && time_sound(erase.left, figures::window_time(part))
 }
 
-// A block erase past its window.
+// A block erase past its window. Inlined, so that no part of the record is handed over in memory.
+#[inline(always)]
 #[tactic(auto, unfolding(plain::specs::Sound::operation_sound))]
 fn erasing_sound(part: Part, bits: Protection, erase: Erase) -> bool
     ensures { result ≡ operation_sound part bits (Erasing erase) }
